@@ -1,7 +1,7 @@
 -- What `cut` and `ended_lines` give of a text that stands in parts.
-use Rattle.std.proofs.Common.{◌≡◌, ℕ, ◌==◌, ◌≢◌, ◌<◌, ◌≤◌, zero, suc, true, false, Bool, length, arith, List, [], ◌∷◌, ◌++◌, refl, ap, sym, ◌∙◌, append_assoc, All}
+use Rattle.std.proofs.Common.{◌≡◌, ℕ, ◌==◌, ◌≢◌, ◌<◌, ◌≤◌, true, false, length, arith, List, [], ◌∷◌, ◌++◌, refl, ap, ◌∙◌, append_assoc}
 use Rattle.std.proofs.lemmas.Bool.{ne_eqb}
-use Rattle.std.proofs.lemmas.List.Elements.{All-head, All-tail, All-append, All-nil, All-cons}
+use Rattle.std.proofs.lemmas.List.Elements.{All-head, All-tail}
 use Rattle.text_lines.specs.Lines.{cut, ended_lines, push_front, put_front, HasNoLf}
 use Rattle.std.specs.Prelude.{if◌then◌else◌}
 
@@ -81,8 +81,8 @@ unfolding cut
 cut-append [] rest = refl
 cut-append (b ∷ t) rest =
     elim (b == 10) as (λ v. (if v then [] ∷ cut ((t ++ 10 ∷ []) ++ rest) else push_front b (cut ((t ++ 10 ∷ []) ++ rest))) ≡ (if v then [] ∷ cut (t ++ 10 ∷ []) else push_front b (cut (t ++ 10 ∷ []))) ++ cut rest) [
-      true ↦ ap (λ ls. [] ∷ ls) (cut-append t rest)
-    | false ↦ ap (push_front b) (cut-append t rest) ∙ push-append b (cut (t ++ 10 ∷ [])) (cut rest) (cut-some t)
+      | true ↦ ap (λ ls. [] ∷ ls) (cut-append t rest)
+      | false ↦ ap (push_front b) (cut-append t rest) ∙ push-append b (cut (t ++ 10 ∷ [])) (cut rest) (cut-some t)
     ]
 
 pub ended-append : (t rest : List ℕ) → ended_lines ((t ++ 10 ∷ []) ++ rest) ≡ ended_lines (t ++ 10 ∷ []) ++ ended_lines rest
@@ -90,8 +90,8 @@ unfolding ended_lines
 ended-append [] rest = refl
 ended-append (b ∷ t) rest =
     elim (b == 10) as (λ v. (if v then [] ∷ ended_lines ((t ++ 10 ∷ []) ++ rest) else put_front b (ended_lines ((t ++ 10 ∷ []) ++ rest))) ≡ (if v then [] ∷ ended_lines (t ++ 10 ∷ []) else put_front b (ended_lines (t ++ 10 ∷ []))) ++ ended_lines rest) [
-      true ↦ ap (λ ls. [] ∷ ls) (ended-append t rest)
-    | false ↦ ap (put_front b) (ended-append t rest) ∙ put-append b (ended_lines (t ++ 10 ∷ [])) (ended_lines rest) (ended-some t)
+      | true ↦ ap (λ ls. [] ∷ ls) (ended-append t rest)
+      | false ↦ ap (put_front b) (ended-append t rest) ∙ put-append b (ended_lines (t ++ 10 ∷ [])) (ended_lines rest) (ended-some t)
     ]
 
 -- `cut` has the ended lines, and after them at most one more
@@ -113,6 +113,6 @@ unfolding cut ended_lines
 cut-ended [] = record { last = []; is = refl; one = omega arith }
 cut-ended (b ∷ t) =
     elim (b == 10) as (λ v. CutOf (if v then [] ∷ ended_lines t else put_front b (ended_lines t)) (if v then [] ∷ cut t else push_front b (cut t))) [
-      true ↦ (let c : CutOf (ended_lines t) (cut t) = cut-ended t in record { last = c.last; is = ap (λ ls. [] ∷ ls) c.is; one = c.one })
-    | false ↦ push-put b (ended_lines t) (cut t) (cut-ended t)
+      | true ↦ (let c : CutOf (ended_lines t) (cut t) = cut-ended t in record { last = c.last; is = ap (λ ls. [] ∷ ls) c.is; one = c.one })
+      | false ↦ push-put b (ended_lines t) (cut t) (cut-ended t)
     ]

@@ -1,7 +1,7 @@
 -- What `said_from` and `numbered_from` give.
 use Rattle.std.proofs.Common.{◌≡◌, ℕ, ◌+◌, true, false, not, filter, List, [], ◌∷◌, ◌++◌, length, refl, ap, sym, ◌∙◌, add-zero, arith}
 use Rattle.std.specs.Prelude.{if◌then◌else◌}
-use Rattle.text_lines.specs.Lines.{Numbered, numbered, numbered_from, said_from, is_blank}
+use Rattle.text_lines.specs.Lines.{numbered, numbered_from, said_from, is_blank}
 
 pub said-nil : (n : ℕ) → said_from n [] ≡ []
 unfolding said_from
@@ -29,8 +29,8 @@ unfolding said_from numbered_from
 said-numbered n [] = refl
 said-numbered n (l ∷ ls) =
     elim (is_blank l) as (λ v. (if v then said_from (n + 1) ls else numbered n l ∷ said_from (n + 1) ls) ≡ (if not v then numbered n l ∷ filter (λ x. not (is_blank x.text)) (numbered_from (n + 1) ls) else filter (λ x. not (is_blank x.text)) (numbered_from (n + 1) ls))) [
-      true ↦ said-numbered (n + 1) ls
-    | false ↦ ap (λ xs. numbered n l ∷ xs) (said-numbered (n + 1) ls)
+      | true ↦ said-numbered (n + 1) ls
+      | false ↦ ap (λ xs. numbered n l ∷ xs) (said-numbered (n + 1) ls)
     ]
 
 -- what the first lines say, and then the rest
@@ -40,8 +40,8 @@ said-append n [] ms = ap (λ k. said_from k ms) (sym (add-zero n))
 said-append n (l ∷ ls) ms =
     let e : said_from (n + 1 + length ls) ms ≡ said_from (n + length (l ∷ ls)) ms = ap (λ k. said_from k ms) (omega arith) in
     elim (is_blank l) as (λ v. (if v then said_from (n + 1) (ls ++ ms) else numbered n l ∷ said_from (n + 1) (ls ++ ms)) ≡ (if v then said_from (n + 1) ls else numbered n l ∷ said_from (n + 1) ls) ++ said_from (n + length (l ∷ ls)) ms) [
-      true ↦ said-append (n + 1) ls ms ∙ ap (λ xs. said_from (n + 1) ls ++ xs) e
-    | false ↦ ap (λ xs. numbered n l ∷ xs) (said-append (n + 1) ls ms ∙ ap (λ xs. said_from (n + 1) ls ++ xs) e)
+      | true ↦ said-append (n + 1) ls ms ∙ ap (λ xs. said_from (n + 1) ls ++ xs) e
+      | false ↦ ap (λ xs. numbered n l ∷ xs) (said-append (n + 1) ls ms ∙ ap (λ xs. said_from (n + 1) ls ++ xs) e)
     ]
 
 pub numbered-append : (n : ℕ) (ls ms : List (List ℕ)) → numbered_from n (ls ++ ms) ≡ numbered_from n ls ++ numbered_from (n + length ls) ms

@@ -6,7 +6,7 @@
 --     is_blank line           it is JSON whitespace alone (RFC 8259, section 2)
 --     numbered_from n lines   each line with its number, where the first has n
 --     said_from n lines       of the numbered lines those that are not blank
-use Rattle.std.specs.Prelude.{ℕ, ◌+◌, ◌==◌, ◌||◌, ◌≢◌, Bool, List, [], ◌∷◌, ◌++◌, if◌then◌else◌, All}
+use Rattle.std.specs.Prelude.{◌≡◌, flat_map, ℕ, ◌+◌, ◌==◌, ◌||◌, ◌≢◌, Bool, List, [], ◌∷◌, ◌++◌, if◌then◌else◌, All}
 use Rattle.std.specs.List.{list_all}
 
 -- the lines with one byte more at the front of the first, which is a new line where there is none
@@ -56,3 +56,9 @@ said_from n (l ∷ ls) = if is_blank l then said_from (n + 1) ls else numbered n
 -- a line and the LF that ends it
 abbrev pub with_lf : List ℕ → List ℕ
 with_lf line = line ++ 10 ∷ []
+
+-- the text is these lines, each with its LF, and a rest in which there is no LF
+pub record Ends (lines : List (List ℕ)) (text : List ℕ) : Type 0 where
+  pub rest : List ℕ
+  pub is : text ≡ flat_map with_lf lines ++ rest
+  pub no_lf : HasNoLf rest
