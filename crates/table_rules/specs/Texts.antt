@@ -1,5 +1,5 @@
 -- Tests on texts, on lists of names and on pairs.
-use Rattle.std.specs.Prelude.{ℕ, List, [], ◌∷◌, ◌&&◌, ◌||◌, Bool, false, Option, Some, None, length, take, map}
+use Rattle.std.specs.Prelude.{ℕ, List, [], ◌∷◌, ◌&&◌, ◌||◌, Bool, false, Option, Some, None, length, take}
 use Rattle.std.specs.List.{list_all, list_any}
 use Rattle.std.specs.Str.{bytes_eq}
 
@@ -7,18 +7,18 @@ use Rattle.std.specs.Str.{bytes_eq}
 abbrev pub names_have : List (List ℕ) → List ℕ → Bool
 names_have names name = list_any (λ other. bytes_eq other name) names
 
--- two lists have the same names
-abbrev pub same_names : List (List ℕ) → List (List ℕ) → Bool
-same_names these those = list_all (names_have those) these && list_all (names_have these) those
-
 -- an optional list, where an absent one is empty
 abbrev pub listed : Option (List (List ℕ)) → List (List ℕ)
 listed None = []
 listed (Some names) = names
 
--- the names of pairs
-abbrev pub names_of : List (List ℕ × Option (List ℕ)) → List (List ℕ)
-names_of pairs = map (λ pair. pair.0) pairs
+-- a pair has this name
+abbrev pub pairs_name : List (List ℕ × Option (List ℕ)) → List ℕ → Bool
+pairs_name pairs name = list_any (λ pair. bytes_eq pair.0 name) pairs
+
+-- the names of the pairs are exactly those of a list
+abbrev pub pairs_are_of : List (List ℕ × Option (List ℕ)) → List (List ℕ) → Bool
+pairs_are_of pairs names = list_all (λ pair. names_have names pair.0) pairs && list_all (pairs_name pairs) names
 
 -- an optional text is there, and is this one
 abbrev pub is_text : List ℕ → Option (List ℕ) → Bool

@@ -7,6 +7,10 @@ ghost use Rattle.reconcile.specs.Replay.{Log};
 ghost use Rattle.table_rules.specs.Broken.{first_broken};
 
 mod broken;
+mod features;
+mod rules;
+mod said;
+mod texts;
 
 pub use broken::Broken;
 
