@@ -49,11 +49,11 @@ as_removed (added add) = None
 as_removed (removed remove) = Some remove
 
 -- the live file of a key: the last commit that mentions the key adds it
-abbrev pub live_at : Key → Log → Option Add
+unfoldable pub live_at : Key → Log → Option Add
 live_at key log = option_and_then as_added (in_log (mention key) log)
 
 -- the tombstone of a key: the last commit that mentions the key removes it
-abbrev pub gone_at : Key → Log → Option Remove
+unfoldable pub gone_at : Key → Log → Option Remove
 gone_at key log = option_and_then as_removed (in_log (mention key) log)
 
 -- ---- applications, protocol and metadata
@@ -63,21 +63,21 @@ txn_said app (action.Txn txn) = if same_app app txn.app then Some txn else None
 txn_said app _ = None
 
 -- the latest txn of an application
-abbrev pub txn_at : List ℕ → Log → Option Txn
+unfoldable pub txn_at : List ℕ → Log → Option Txn
 txn_at app log = in_log (txn_said app) log
 
 abbrev pub protocol_said : Action → Option Protocol
 protocol_said (action.Protocol protocol) = Some protocol
 protocol_said _ = None
 
-abbrev pub protocol_of_log : Log → Option Protocol
+unfoldable pub protocol_of_log : Log → Option Protocol
 protocol_of_log log = in_log protocol_said log
 
 abbrev pub meta_said : Action → Option Meta
 meta_said (action.Meta meta) = Some meta
 meta_said _ = None
 
-abbrev pub meta_of_log : Log → Option Meta
+unfoldable pub meta_of_log : Log → Option Meta
 meta_of_log log = in_log meta_said log
 
 -- ---- time
@@ -90,5 +90,5 @@ abbrev pub last_commit : Log → Option (List Action)
 last_commit log = last_said Some log
 
 -- the in-commit timestamp of the last commit, and none where that commit has none, whatever the commits before it have
-abbrev pub time_of_log : Log → Option ℤ
+unfoldable pub time_of_log : Log → Option ℤ
 time_of_log log = option_and_then (last_said time_said) (last_commit log)

@@ -1,7 +1,7 @@
 -- The live files, the tombstones and the latest txns of a log as lists in byte order of their keys, each key once.
-use Rattle.std.specs.Prelude.{◌≡◌, ℕ, List, [], ◌∷◌, ◌++◌, map, filter, Option, Some, None, option_map}
+use Rattle.std.specs.Prelude.{◌≡◌, ℕ, List, map, find, Option, Some, None, option_map}
 use Rattle.std.specs.declared.cmp.Ordering.{Ordering}
-use Rattle.std.specs.List.{filter_map, flat_map, find}
+use Rattle.std.specs.List.{filter_map, flat_map}
 use Rattle.std.specs.List.Sorted.{IsStrictlySortedBy}
 use Rattle.std.specs.Ordering.{eq_by_cmp}
 use Rattle.std.specs.FinMap as fin
@@ -32,13 +32,13 @@ app_named (action.Txn txn) = Some txn.app
 app_named _ = None
 
 -- the live files
-abbrev pub files_of : Log → List Add
+unfoldable pub files_of : Log → List Add
 files_of log = in_order key_cmp (λ k. live_at k log) (flat_map (filter_map file_named) log)
 
 -- the tombstones
-abbrev pub tombstones_of : Log → List Remove
+unfoldable pub tombstones_of : Log → List Remove
 tombstones_of log = in_order key_cmp (λ k. gone_at k log) (flat_map (filter_map file_named) log)
 
 -- the latest txn of each application
-abbrev pub txns_of : Log → List Txn
+unfoldable pub txns_of : Log → List Txn
 txns_of log = in_order name_cmp (λ app. txn_at app log) (flat_map (filter_map app_named) log)
