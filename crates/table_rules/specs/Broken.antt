@@ -160,19 +160,24 @@ partition meta actions = option_map broken.Partition (least (filter_map (other_p
 
 -- ---- the first broken rule, in their order
 
-abbrev pub broken_by : Before → List Action → Option Broken
-broken_by table actions =
-    or_else (no_info actions)
-    (or_else (no_meta table.meta actions)
-    (or_else (time_not_after table.time actions)
-    (or_else (feature actions)
-    (or_else (property actions)
-    (or_else (invariants actions)
-    (or_else (columns table.meta actions)
-    (or_else (txn_not_after table.number actions)
+abbrev pub broken_start : Before → List Action → Option Broken
+broken_start table actions =
+    or_else (no_info actions) (or_else (no_meta table.meta actions) (time_not_after table.time actions))
+
+abbrev pub broken_metadata : Before → List Action → Option Broken
+broken_metadata table actions =
+    or_else (feature actions) (or_else (property actions) (or_else (invariants actions) (columns table.meta actions)))
+
+abbrev pub broken_files : Before → List Action → Option Broken
+broken_files table actions =
+    or_else (txn_not_after table.number actions)
     (or_else (not_live table.live actions)
     (or_else (append_only (new_protocol table.protocol actions) (new_meta table.meta actions) actions)
-    (partition (new_meta table.meta actions) actions))))))))))
+    (partition (new_meta table.meta actions) actions)))
+
+abbrev pub broken_by : Before → List Action → Option Broken
+broken_by table actions =
+    or_else (broken_start table actions) (or_else (broken_metadata table actions) (broken_files table actions))
 
 -- the first rule that a commit breaks as the next one of a log, if it breaks any
 abbrev pub first_broken : Log → List Action → Option Broken

@@ -1,6 +1,7 @@
 //! Tests on texts, on lists of names and on pairs.
 
-ghost use Rattle.std.specs.Prelude.{◌≡◌, codes};
+ghost use Rattle.std.specs.Prelude.{◌≡◌};
+ghost use Rattle.std.specs.List.{list_all};
 ghost use Rattle.table_rules.specs.Texts.{names_have, pairs_name, pairs_are_of, is_text, pairs_have, contains_text};
 
 use action_types::Name;
@@ -16,8 +17,21 @@ pub(crate) fn names_have(names: &[Name], name: &str) -> bool
 pub(crate) fn pairs_are_of(pairs: &[(Name, Option<Name>)], names: &[Name]) -> bool
     ensures { result ≡ pairs_are_of pairs.now names.now }
 {
-    let listed = pairs.iter().all(|pair| names_have(names, pair.0.as_str()));
-    listed && names.iter().all(|name| pairs_name(pairs, name.as_str()))
+    pairs_in(pairs, names) && names_in(names, pairs)
+}
+
+/// Whether each pair has a name of the list.
+fn pairs_in(pairs: &[(Name, Option<Name>)], names: &[Name]) -> bool
+    ensures { result ≡ list_all (λ pair. names_have names.now pair.0) pairs.now }
+{
+    pairs.iter().all(|pair| names_have(names, pair.0.as_str()))
+}
+
+/// Whether each name of the list is that of a pair.
+fn names_in(names: &[Name], pairs: &[(Name, Option<Name>)]) -> bool
+    ensures { result ≡ list_all (pairs_name pairs.now) names.now }
+{
+    names.iter().all(|name| pairs_name(pairs, name.as_str()))
 }
 
 /// Whether a name is that of a pair.
