@@ -1,6 +1,6 @@
 -- The conflict of an intended write with a commit that was ratified before it (after the conflicts that
 -- Delta documents for concurrent writes; their order, levels and keys are this project's).
-use Rattle.std.specs.Prelude.{◌≡◌, ℕ, ◌+◌, List, [], ◌∷◌, ◌++◌, ◌&&◌, ◌||◌, Bool, true, false, Option, Some, None, if◌then◌else◌, option_map, is_some, length, All}
+use Rattle.std.specs.Prelude.{◌≡◌, ℕ, ◌+◌, List, [], ◌∷◌, ◌++◌, ◌&&◌, ◌||◌, Bool, true, false, Option, Some, None, if◌then◌else◌, option_map, is_some, length, All, map, Vec}
 use Rattle.std.specs.List.{list_any, filter_map}
 use Rattle.std.specs.Str.{bytes_eq}
 use Rattle.action_types.specs.declared.actions.Action.{Action}
@@ -18,6 +18,8 @@ use Rattle.conflict_rules.specs.declared.intent.Reads.TheVariants as reads
 use Rattle.conflict_rules.specs.declared.clash.Rule.{Rule}
 use Rattle.conflict_rules.specs.declared.clash.Rule.TheVariants as rule
 use Rattle.conflict_rules.specs.declared.clash.Clash.{Clash}
+use Rattle.conflict_rules.specs.declared.clash.Lowest.{Lowest}
+use Rattle.std.specs.declared.alloc.Global.{Global}
 
 -- a rule, and the key at which it holds: an application, a path, or the empty text
 abbrev pub Said : Type 0
@@ -107,15 +109,22 @@ by_append level read winner =
 
 -- ---- the first rule that holds, in their order
 
--- against the live files of the base
+-- what the winner says of the table and of applications
+abbrev pub conflicts_of_table : Intent → List Action → Option Said
+conflicts_of_table intent winner =
+    or_else (by_protocol winner) (or_else (by_metadata winner) (by_transaction intent.app winner))
+
+-- what it does to files, against the live files of the base
+abbrev pub conflicts_of_reads : Intent → (Key → Option Add) → List Action → Option Said
+conflicts_of_reads intent live winner =
+    or_else (by_delete_read intent.reads live winner) (by_append intent.level intent.reads winner)
+
+abbrev pub conflicts_of_files : Intent → (Key → Option Add) → List Action → Option Said
+conflicts_of_files intent live winner =
+    or_else (by_delete_delete intent.removes winner) (conflicts_of_reads intent live winner)
+
 abbrev pub conflict_by : Intent → (Key → Option Add) → List Action → Option Said
-conflict_by intent live winner =
-    or_else (by_protocol winner)
-    (or_else (by_metadata winner)
-    (or_else (by_transaction intent.app winner)
-    (or_else (by_delete_delete intent.removes winner)
-    (or_else (by_delete_read intent.reads live winner)
-    (by_append intent.level intent.reads winner)))))
+conflict_by intent live winner = or_else (conflicts_of_table intent winner) (conflicts_of_files intent live winner)
 
 abbrev pub live_files : Log → Key → Option Add
 live_files base key = live_at key base
@@ -124,19 +133,30 @@ live_files base key = live_at key base
 abbrev pub conflict_with : Intent → Log → List Action → Option Said
 conflict_with intent base winner = conflict_by intent (live_files base) winner
 
--- the first conflict of an intent with the winners, the commits from this version on
+-- the first of the winners, the commits from this version on, that conflicts
+abbrev pub first_of : (List Action → Option Said) → ℕ → Log → Option (ℕ × Said)
+first_of conflict version [] = None
+first_of conflict version (winner ∷ winners) =
+    or_else (option_map (λ clash. (version, clash)) (conflict winner)) (first_of conflict (version + 1) winners)
+
+-- the first conflict of an intent with the winners: the lowest version that conflicts, and its conflict
 abbrev pub first_conflict : Intent → Log → ℕ → Log → Option (ℕ × Said)
-first_conflict intent base version [] = None
-first_conflict intent base version (winner ∷ winners) =
-    or_else (option_map (λ clash. (version, clash)) (conflict_with intent base winner))
-    (first_conflict intent base (version + 1) winners)
+first_conflict intent base version winners = first_of (conflict_with intent base) version winners
 
 -- a winner that conflicts, and none before it does
-pub record IsLowest (intent : Intent) (base : Log) (version : ℕ) (winners : Log) (found : ℕ × Said) : Type 0 where
+pub record IsLowest (conflict : List Action → Option Said) (version : ℕ) (winners : Log) (found : ℕ × Said) : Type 0 where
   pub front : Log
   pub winner : List Action
   pub back : Log
   pub place : winners ≡ front ++ winner ∷ back
   pub named : found.0 ≡ version + length front
-  pub clashes : conflict_with intent base winner ≡ Some found.1
-  pub none_before : All (λ other. conflict_with intent base other ≡ None) front
+  pub clashes : conflict winner ≡ Some found.1
+  pub none_before : All (λ other. conflict other ≡ None) front
+
+-- the place of a winner, with the conflict
+abbrev pub placed : Lowest → ℕ × Said
+placed lowest = (lowest.place, said lowest.clash)
+
+-- the winners as lists of actions
+abbrev pub commits_of : List (Vec Action Global) → Log
+commits_of winners = map (λ winner. winner.items) winners

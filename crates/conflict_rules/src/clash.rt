@@ -21,3 +21,11 @@ pub struct Clash<'a> {
     pub rule: Rule,
     pub key: &'a str,
 }
+
+/// The first of several commits that conflict with an intended write.
+#[derive(Clone, Copy, PartialEq, Eq, Debug)]
+pub struct Lowest<'a> {
+    /// The place of the commit among them, from 0.
+    pub place: usize,
+    pub clash: Clash<'a>,
+}

@@ -7,7 +7,7 @@ mod files;
 mod intent;
 mod rules;
 
-pub use clash::{Clash, Rule};
-pub use conflict::first_conflict;
+pub use clash::{Clash, Lowest, Rule};
+pub use conflict::{first_conflict, first_conflict_of, the_lowest_is_named};
 pub use files::{Adds, Removes};
 pub use intent::{Change, Intent, Level, Reads};

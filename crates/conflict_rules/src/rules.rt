@@ -3,6 +3,7 @@
 ghost use Rattle.std.specs.Prelude.{◌≡◌, option_map};
 ghost use Rattle.std.specs.List.{list_any, filter_map};
 ghost use Rattle.std.specs.Option.{option_copied};
+ghost use Rattle.std.specs.Str.{bytes_eq};
 ghost use Rattle.least_names.specs.Least.{least};
 ghost use Rattle.reconcile.specs.Standing.{live_in};
 ghost use Rattle.conflict_rules.specs.Conflict.{said, by_protocol, by_metadata, is_protocol, is_meta, is_remove, is_txn_of, by_transaction, is_removed, removed_twice, by_delete_delete, is_read, read_path, by_delete_read, minds_appends, reads_all, is_serializable, new_path, by_append};
@@ -17,7 +18,7 @@ use reconcile::State;
 pub(crate) fn by_protocol(winner: &[Action]) -> Option<Clash<'_>>
     ensures { option_map said result ≡ by_protocol winner.now }
 {
-    if winner.iter().any(is_protocol) {
+    if has_protocol(winner) {
         Some(Clash {
             rule: Rule::Protocol,
             key: "",
@@ -25,6 +26,12 @@ pub(crate) fn by_protocol(winner: &[Action]) -> Option<Clash<'_>>
     } else {
         None
     }
+}
+
+fn has_protocol(winner: &[Action]) -> bool
+    ensures { result ≡ list_any is_protocol winner.now }
+{
+    winner.iter().any(is_protocol)
 }
 
 fn is_protocol(action: &Action) -> bool
@@ -37,7 +44,7 @@ fn is_protocol(action: &Action) -> bool
 pub(crate) fn by_metadata(winner: &[Action]) -> Option<Clash<'_>>
     ensures { option_map said result ≡ by_metadata winner.now }
 {
-    if winner.iter().any(is_meta) {
+    if has_meta(winner) {
         Some(Clash {
             rule: Rule::Metadata,
             key: "",
@@ -47,10 +54,22 @@ pub(crate) fn by_metadata(winner: &[Action]) -> Option<Clash<'_>>
     }
 }
 
+fn has_meta(winner: &[Action]) -> bool
+    ensures { result ≡ list_any is_meta winner.now }
+{
+    winner.iter().any(is_meta)
+}
+
 fn is_meta(action: &Action) -> bool
     ensures { result ≡ is_meta action.now }
 {
     matches!(action, Action::Meta(_))
+}
+
+fn has_remove(winner: &[Action]) -> bool
+    ensures { result ≡ list_any is_remove winner.now }
+{
+    winner.iter().any(is_remove)
 }
 
 fn is_remove(action: &Action) -> bool
@@ -63,7 +82,7 @@ fn is_remove(action: &Action) -> bool
 pub(crate) fn by_transaction<'a>(app: &'a Name, winner: &[Action]) -> Option<Clash<'a>>
     ensures { option_map said result ≡ by_transaction app.now winner.now }
 {
-    if winner.iter().any(|action| is_txn_of(app, action)) {
+    if has_txn_of(app, winner) {
         Some(Clash {
             rule: Rule::Transaction,
             key: app.as_str(),
@@ -71,6 +90,12 @@ pub(crate) fn by_transaction<'a>(app: &'a Name, winner: &[Action]) -> Option<Cla
     } else {
         None
     }
+}
+
+fn has_txn_of(app: &Name, winner: &[Action]) -> bool
+    ensures { result ≡ list_any (is_txn_of app.now) winner.now }
+{
+    winner.iter().any(|action| is_txn_of(app, action))
 }
 
 fn is_txn_of(app: &Name, action: &Action) -> bool
@@ -160,8 +185,14 @@ fn is_read(reads: &Reads, base: &State, remove: &Remove) -> bool
     match reads {
         Reads::None => false,
         Reads::All => base.live(remove.path.as_str()).is_some(),
-        Reads::Paths(paths) => paths.as_slice().iter().any(|path| *path == remove.path),
+        Reads::Paths(paths) => names_have(paths.as_slice(), &remove.path),
     }
+}
+
+fn names_have(names: &[Name], path: &Name) -> bool
+    ensures { result ≡ list_any (λ name. bytes_eq name path.now) names.now }
+{
+    names.iter().any(|name| name == path)
 }
 
 /// The winner adds data to a table that the intent read whole.
@@ -178,7 +209,7 @@ pub(crate) fn by_append<'a>(level: Level, reads: &Reads, winner: &'a [Action]) -
 fn minds_appends(level: Level, reads: &Reads, winner: &[Action]) -> bool
     ensures { result ≡ minds_appends level reads.now winner.now }
 {
-    reads_all(reads) && (is_serializable(level) || winner.iter().any(is_remove))
+    reads_all(reads) && (is_serializable(level) || has_remove(winner))
 }
 
 fn reads_all(reads: &Reads) -> bool
