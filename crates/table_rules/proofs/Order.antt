@@ -1,5 +1,5 @@
 -- The first broken rule of several, and what a check tells of it.
-use Rattle.std.proofs.Common.{◌≡◌, Option, Some, None, Result, Ok, Err, refl, sym, ap, subst, ◌∙◌}
+use Rattle.std.proofs.Common.{◌≡◌, Option, Some, None, Result, Err, refl, sym, ap, subst}
 use Rattle.reconcile.specs.Replay.{or_else}
 use Rattle.table_rules.specs.Broken.{Tells, TellsOf, told}
 use Rattle.table_rules.specs.declared.broken.Broken.{Broken}

@@ -1,10 +1,10 @@
 -- Tests on lists and on texts.
-use Rattle.std.proofs.Common.{◌≡◌, ◌≢◌, ℕ, zero, suc, ◌+◌, ◌≤◌, List, [], ◌∷◌, ◌++◌, length, take, drop, Bool, true, false, ◌||◌, Option, Some, None, map, arith, refl, sym, ap, ◌∙◌}
+use Rattle.std.proofs.Common.{◌≡◌, ℕ, zero, suc, ◌≤◌, List, [], ◌∷◌, ◌++◌, length, take, drop, Bool, true, false, ◌||◌, None, arith, refl, sym, ap, ◌∙◌}
 use Rattle.std.proofs.lemmas.List.{take_at, take-append-drop}
 use Rattle.std.proofs.lemmas.Slice.Eq.{bytes_eq-Decides}
 use Rattle.std.specs.Bool.{MatchBool}
 use Rattle.std.specs.Str.{bytes_eq}
-use Rattle.std.specs.Str.Pattern.{FindsText, LacksTextAt, HasTextAt, HasMatch}
+use Rattle.std.specs.Str.Pattern.{FindsText, LacksTextAt, HasMatch}
 use Rattle.table_rules.specs.Texts.{contains_text}
 
 first_or : (a b : Bool) → a ≡ true → (a || b) ≡ true
@@ -37,7 +37,7 @@ false_by false = λ _. refl
 begins_not : (part bs : List ℕ) → ((rest : List ℕ) → bs ≡ part ++ rest → ⊥) → bytes_eq (take (length part) bs) part ≡ false
 begins_not part bs lacks =
     false_by _ (λ is. lacks (drop (length part) bs)
-        (sym (take-append-drop (length part) bs) ∙ ap (λ (l : List ℕ). l ++ drop (length part) bs) ((bytes_eq-Decides (take (length part) bs) part).0 is)))
+    (sym (take-append-drop (length part) bs) ∙ ap (λ (l : List ℕ). l ++ drop (length part) bs) ((bytes_eq-Decides (take (length part) bs) part).0 is)))
 
 -- where a part stands nowhere, the test does not find it
 not_found : (part bs : List ℕ) → ((i : ℕ) → i ≤ length bs → LacksTextAt part bs i) → contains_text part bs ≡ false

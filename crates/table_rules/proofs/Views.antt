@@ -1,10 +1,10 @@
 -- A state that stands for a log has what the rules look at.
-use Rattle.std.proofs.Common.{◌≡◌, option_map, ap}
+use Rattle.std.proofs.Common.{◌≡◌, option_map}
 use Rattle.action_types.specs.declared.actions.Txn.{Txn}
 use Rattle.reconcile.specs.Replay.{Log}
 use Rattle.reconcile.specs.Standing.{StandsFor}
 use Rattle.reconcile.specs.declared.state.State.{State}
-use Rattle.table_rules.specs.Broken.{Before, after}
+use Rattle.table_rules.specs.Broken.{after}
 use Rattle.table_rules.specs.Seen.{seen}
 
 pub seen-after : (state : State) (log : Log) → StandsFor state log → seen state ≡ after log

@@ -18,9 +18,8 @@ mod rules;
 mod said;
 mod texts;
 
-pub use broken::Broken;
-
 use action_types::Action;
+pub use broken::Broken;
 use reconcile::State;
 use std::alloc::Global;
 
@@ -40,3 +39,6 @@ pub fn check_create(alloc: Global, actions: &[Action]) -> Result<(), Broken>
     let state = State::empty(alloc);
     check_next(alloc, &state, actions)
 }
+
+#[cfg(test)]
+mod tests;

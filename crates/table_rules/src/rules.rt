@@ -177,7 +177,9 @@ fn other_partition<'a>(columns: &[Name], action: &'a Action) -> Option<&'a str>
     ensures { option_copied result ≡ other_partition columns.now action.now }
 {
     match action {
-        Action::Add(add) if !pairs_are_of(add.values.as_slice(), columns) => Some(add.path.as_str()),
+        Action::Add(add) if !pairs_are_of(add.values.as_slice(), columns) => Some(
+            add.path.as_str(),
+        ),
         _ => None,
     }
 }
@@ -196,7 +198,11 @@ fn least_other_partition<'a>(columns: &[Name], actions: &'a [Action]) -> Option<
 }
 
 /// Each add has the partition columns of the metadata with the commit.
-pub(crate) fn check_partitions(alloc: Global, meta: Option<&Meta>, actions: &[Action]) -> Result<(), Broken>
+pub(crate) fn check_partitions(
+    alloc: Global,
+    meta: Option<&Meta>,
+    actions: &[Action],
+) -> Result<(), Broken>
     ensures { Tells result (partition (option_copied meta.entry) actions.now) }
 {
     if let Some(path) = least_other_partition(columns_of(meta), actions) {
