@@ -1,5 +1,5 @@
 -- A state that stands for a log has its live files; the first of several rules, and the first of several winners.
-use Rattle.std.proofs.Common.{◌≡◌, ℕ, zero, suc, ◌+◌, ◌<◌, List, [], ◌∷◌, ◌++◌, length, Option, Some, None, option_map, MatchOption, All, arith, refl, sym, ap, ◌∙◌}
+use Rattle.std.proofs.Common.{◌≡◌, ℕ, zero, suc, ◌+◌, List, [], ◌∷◌, Option, Some, None, option_map, MatchOption, All, arith, refl, sym, ap, ◌∙◌}
 use Rattle.action_types.specs.declared.actions.Action.{Action}
 use Rattle.reconcile.specs.Replay.{Log, or_else}
 use Rattle.reconcile.specs.Standing.{StandsFor, live_in}

@@ -26,11 +26,7 @@ pub fn first_conflict<'a>(
 }
 
 /// The first of all the rules.
-fn first_rule<'a>(
-    intent: &'a Intent,
-    base: &State,
-    winner: &'a [Action],
-) -> Option<Clash<'a>>
+fn first_rule<'a>(intent: &'a Intent, base: &State, winner: &'a [Action]) -> Option<Clash<'a>>
     ensures { option_map said result ≡ conflict_by intent.now (live_in base.now) winner.now }
 {
     match of_table(intent, winner) {
@@ -85,11 +81,7 @@ pub fn first_conflict_of<'a>(
 }
 
 /// The same against the live files of the state.
-fn lowest<'a>(
-    intent: &'a Intent,
-    base: &State,
-    winners: &'a [Vec<Action>],
-) -> Option<Lowest<'a>>
+fn lowest<'a>(intent: &'a Intent, base: &State, winners: &'a [Vec<Action>]) -> Option<Lowest<'a>>
     ensures { option_map placed result ≡ first_of (conflict_by intent.now (live_in base.now)) 0 (commits_of winners.now) }
 {
     for (place, winner) in winners.iter().enumerate() {
@@ -104,5 +96,4 @@ fn lowest<'a>(
 /// is none exactly where none of them conflicts.
 pub fn the_lowest_is_named()
     ensures { (intent : Intent) (base : Log) (version : ℕ) (winners : Log) → MatchOption (first_conflict intent base version winners) (All (λ winner. conflict_with intent base winner ≡ None) winners) (λ found. IsLowest (conflict_with intent base) version winners found) }
-{
-}
+{}

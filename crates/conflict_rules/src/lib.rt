@@ -11,3 +11,6 @@ pub use clash::{Clash, Lowest, Rule};
 pub use conflict::{first_conflict, first_conflict_of, the_lowest_is_named};
 pub use files::{Adds, Removes};
 pub use intent::{Change, Intent, Level, Reads};
+
+#[cfg(test)]
+mod tests;

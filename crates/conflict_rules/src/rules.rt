@@ -152,7 +152,11 @@ fn is_removed(removes: &[Remove], path: &Name) -> bool
 }
 
 /// The winner removes a file that the intent read.
-pub(crate) fn by_delete_read<'a>(reads: &Reads, base: &State, winner: &'a [Action]) -> Option<Clash<'a>>
+pub(crate) fn by_delete_read<'a>(
+    reads: &Reads,
+    base: &State,
+    winner: &'a [Action],
+) -> Option<Clash<'a>>
     ensures { option_map said result ≡ by_delete_read reads.now (live_in base.now) winner.now }
 {
     at_path(Rule::DeleteRead, least_read_path(reads, base, winner))

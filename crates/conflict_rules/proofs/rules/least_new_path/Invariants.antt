@@ -2,7 +2,6 @@ use Rattle.std.proofs.Common.{◌≡◌, drop, fold}
 use Rattle.std.specs.List.{filter_map}
 use Rattle.std.specs.Option.{option_copied}
 use Rattle.least_names.specs.Least.{least, lesser}
-use Rattle.reconcile.specs.Standing.{live_in}
 use Rattle.conflict_rules.specs.Conflict.{new_path}
 use Rattle.conflict_rules.proofs.rules.least_new_path.Given as goal
 
