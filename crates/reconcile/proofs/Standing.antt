@@ -13,7 +13,7 @@ use Rattle.reconcile.specs.Replay.{Log, or_else, last_said, in_log, last_commit,
 use Rattle.reconcile.specs.Standing.{live_in, gone_in, txn_in, protocol_in, meta_in, time_in, HasTableOf, StandsFor}
 use Rattle.reconcile.specs.Steps.{after, timed}
 use Rattle.reconcile.specs.declared.state.State.{State}
-use Rattle.reconcile.proofs.Last.{or_else-none, or_else_assoc, last_said-append, last_commit-push}
+use Rattle.reconcile.proofs.Last.{or_else-none, or_else_assoc, newer, last_said-append, last_commit-push}
 
 -- the look-ups of a state, by what was last said of each key
 record Holds (s : State) (file : Key → Option Mention) (txns : List ℕ → Option Txn) (p : Option Protocol) (m : Option Meta) : Type 0 where
@@ -28,10 +28,6 @@ decided : {B : Type 0} (f : Mention → Option B) (here : Bool) (new : Mention) 
     → cond here (f new) (option_and_then f old) ≡ option_and_then f (or_else (cond here (Some new) None) old)
 decided f true new old = refl
 decided f false new old = refl
-
-newer : {B : Type 0} (here : Bool) (new : B) (old : Option B) → cond here (Some new) old ≡ or_else (cond here (Some new) None) old
-newer true new old = refl
-newer false new old = refl
 
 Holds-after : (s : State) (a : Action) (file : Key → Option Mention) (txns : List ℕ → Option Txn) (p : Option Protocol) (m : Option Meta)
     → Holds s file txns p m

@@ -3,5 +3,7 @@
 
 mod by_name;
 mod state;
+mod walks;
 
 pub use state::State;
+pub use walks::{FileWalk, GoneWalk, TxnWalk};
