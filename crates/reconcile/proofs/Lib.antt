@@ -1,3 +1,5 @@
+pub mod InOrder
 pub mod Last
+pub mod Listing
 pub mod Named
 pub mod Standing

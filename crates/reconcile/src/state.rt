@@ -23,6 +23,7 @@ impl State {
     ghost use Rattle.reconcile.specs.Replay.{Log};
     ghost use Rattle.reconcile.specs.Standing.{StandsFor, HasTableOf, live_in, gone_in, txn_in, protocol_in, meta_in, time_in, files_in, tombstones_in, txns_in};
     ghost use Rattle.reconcile.specs.Steps.{after, timed};
+    ghost use Rattle.reconcile.specs.Walks.{files_of, tombstones_of, txns_of};
 
     /// The state of no commits.
     pub fn empty(alloc: Global) -> State
@@ -180,7 +181,8 @@ impl State {
 
     /// The live files in byte order of their keys, each with its `change` false.
     pub fn files(&self) -> FileWalk<'_>
-        ensures { result ≡ files_in self.now }
+        ensures value { result ≡ files_in self.now }
+        ensures of_log { (log : Log) → HasTableOf self.now log → result ≡ files_of log }
     {
         FileWalk {
             rest: self.live.values(),
@@ -189,7 +191,8 @@ impl State {
 
     /// The tombstones in byte order of their keys, each with its `change` false.
     pub fn tombstones(&self) -> GoneWalk<'_>
-        ensures { result ≡ tombstones_in self.now }
+        ensures value { result ≡ tombstones_in self.now }
+        ensures of_log { (log : Log) → HasTableOf self.now log → result ≡ tombstones_of log }
     {
         GoneWalk {
             rest: self.gone.values(),
@@ -198,7 +201,8 @@ impl State {
 
     /// The latest txns in byte order of their applications.
     pub fn txns(&self) -> TxnWalk<'_>
-        ensures { result ≡ txns_in self.now }
+        ensures value { result ≡ txns_in self.now }
+        ensures of_log { (log : Log) → HasTableOf self.now log → result ≡ txns_of log }
     {
         TxnWalk {
             rest: self.txns.values(),
