@@ -3,6 +3,7 @@
 
 mod by_name;
 mod laws;
+pub mod plain;
 mod state;
 mod walks;
 
