@@ -63,7 +63,7 @@ module _ {A B K : Type 0} (test : K → Bool) (names : A → Option K) (says : A
   log_none (xs ∷ xss) e =
       let f = sym (list_any-append test (filter_map names xs) (flat_map (filter_map names) xss)) ∙ e in
       λ i. or_else (log_none xss (none_right (list_any test (filter_map names xs)) (list_any test (flat_map (filter_map names) xss)) f) i)
-        (said_none xs (none_left (list_any test (filter_map names xs)) (list_any test (flat_map (filter_map names) xss)) f) i)
+      (said_none xs (none_left (list_any test (filter_map names xs)) (list_any test (flat_map (filter_map names) xss)) f) i)
 
 -- ---- what is true of all that is said
 
@@ -140,9 +140,10 @@ module _ {K V : Type 0} {R : K → K → Ordering} (o : IsTotalOrder R) (exact :
 
   keyed : (key : V → K) (es : List (K × V)) → T (fin.is_sorted R es) → ((k : K) (v : V) → fin.find R k es ≡ Some v → key v ≡ k) → AllByRecursion (λ e. key e.1 ≡ e.0) es
   keyed key [] h own = tt
-  keyed key (e ∷ es) h own =
-      (own e.0 e.1 (ap (λ r. cond (is_eq r) (Some e.1) (fin.find R e.0 es)) (tied_itself o e.0)),
-        keyed key es (second (below_all R e.0 es) (fin.is_sorted R es) h) (λ k v is. own k v (in_rest (eq_by_cmp R k e.0) k e.0 e.1 v es refl (above_none e.0 es (all_less e.0 es (first (below_all R e.0 es) (fin.is_sorted R es) h))) is)))
+  keyed key (e ∷ es) h own = (
+    own e.0 e.1 (ap (λ r. cond (is_eq r) (Some e.1) (fin.find R e.0 es)) (tied_itself o e.0)),
+    keyed key es (second (below_all R e.0 es) (fin.is_sorted R es) h) (λ k v is. own k v (in_rest (eq_by_cmp R k e.0) k e.0 e.1 v es refl (above_none e.0 es (all_less e.0 es (first (below_all R e.0 es) (fin.is_sorted R es) h))) is)),
+  )
 
   map-keyed : (key : V → K) (es : List (K × V)) → AllByRecursion (λ e. key e.1 ≡ e.0) es → map key (map (λ e. e.1) es) ≡ map (λ e. e.0) es
   map-keyed key [] h = refl

@@ -87,7 +87,7 @@ module _ {V : Type 0} where
   values-by_bytes m h =
       let sorted = rising m.entries h in
       let same = fin.same_map nat_list_cmp_total exact_names (by_bytes m) (fin.from_sorted (named m.entries))
-            (λ q. fin.get-from_entries nat_list_cmp_total (named m.entries) q ∙ sym (fin.get-from_sorted name_cmp (named m.entries) q sorted)) in
+      (λ q. fin.get-from_entries nat_list_cmp_total (named m.entries) q ∙ sym (fin.get-from_sorted name_cmp (named m.entries) q sorted)) in
       ap fin.values same ∙ ap (map (λ e. e.1)) (fin.entries-from_sorted name_cmp (named m.entries) sorted) ∙ values-named m.entries
 
   -- ---- a copy that is made from the last entry on
@@ -103,7 +103,7 @@ module _ {V : Type 0} where
       → (q : List ℕ) → or_else (fin.find name_cmp q (named t)) (fin.get new q) ≡ or_else (fin.find name_cmp q (named s)) (fin.get old q)
   copy_more s t old new e split made q =
       ap (or_else (fin.find name_cmp q (named t)))
-        (ap (λ m. fin.get m q) made ∙ fin.get-insert nat_list_cmp_total old (string_bytes e.0) e.1 q ∙ newer (eq_by_cmp name_cmp q (string_bytes e.0)) e.1 (fin.get old q))
+      (ap (λ m. fin.get m q) made ∙ fin.get-insert nat_list_cmp_total old (string_bytes e.0) e.1 q ∙ newer (eq_by_cmp name_cmp q (string_bytes e.0)) e.1 (fin.get old q))
       ∙ sym (or_else_assoc (fin.find name_cmp q (named t)) (cond (eq_by_cmp name_cmp q (string_bytes e.0)) (Some e.1) None) (fin.get old q))
       ∙ ap (λ o. or_else o (fin.get old q)) (sym (find-push q t e) ∙ ap (λ es. fin.find name_cmp q (named es)) (sym split))
 

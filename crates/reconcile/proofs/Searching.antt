@@ -54,8 +54,8 @@ pub commit_found : (asked : Asked) (all rest before : List (Vec Action Global)) 
     → is_some found ≡ true → found ≡ in_log (passes asked) (log_of all)
 commit_found asked all rest before c found so_far split here is =
     sym (so_far ∙ ap (λ cs. in_log (passes asked) (log_of cs)) split ∙ ap (in_log (passes asked)) (log_of-push before c)
-      ∙ last_said-append (last_said (passes asked)) (log_of before) (c.items ∷ [])
-      ∙ some_of found (last_said (passes asked) c.items) (in_log (passes asked) (log_of before)) is here)
+    ∙ last_said-append (last_said (passes asked)) (log_of before) (c.items ∷ [])
+    ∙ some_of found (last_said (passes asked) c.items) (in_log (passes asked) (log_of before)) is here)
 
 pub commit_passed : (asked : Asked) (all rest before : List (Vec Action Global)) (c : Vec Action Global) (found : Option Action)
     → in_log (passes asked) (log_of all) ≡ in_log (passes asked) (log_of rest) → rest ≡ before ++ c ∷ [] → found ≡ last_said (passes asked) c.items

@@ -10,11 +10,9 @@ pub fn walks_list_the_replay()
     ensures files { (log : Log) → Lists key_cmp key_of (files_of log) (λ key. live_at key log) }
     ensures tombstones { (log : Log) → Lists key_cmp key_of_remove (tombstones_of log) (λ key. gone_at key log) }
     ensures txns { (log : Log) → Lists name_cmp (λ t. t.app) (txns_of log) (λ app. txn_at app log) }
-{
-}
+{}
 
 /// Two states that stand for one log are equal.
 pub fn a_log_has_one_state()
     ensures { (s t : State) (log : Log) → StandsFor s log → StandsFor t log → s ≡ t }
-{
-}
+{}
