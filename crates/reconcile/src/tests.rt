@@ -1,10 +1,11 @@
 use crate::{State, plain};
 use action_types::{Action, Add, Format, Info, Meta, Name, Names, Pairs, Protocol, Remove, Txn};
 use std::alloc::{AllocError, Global};
-use std::process::Abort;
 use std::test::Fail;
 
 const PATHS: [&str; 4] = ["a", "b", "b/c", "é"];
+
+const APPS: [&str; 5] = ["A", "a", "b", "b/c", "é"];
 
 fn info(time: i64) -> Action {
     Action::Info(Info { time, txn_id: None })
@@ -66,108 +67,85 @@ fn remove(alloc: Global, path: &str, deleted: i64) -> Result<Action, AllocError>
     }))
 }
 
-/// The paths and sizes of the live files, the paths and times of the tombstones, and the applications with
-/// their numbers, in the order of the walks.
-fn walked(alloc: Global, state: &State) -> Result<String, AllocError> {
-    let mut text = String::new(alloc);
-    for add in state.files() {
-        let path = add.path.as_str();
-        let size = add.size;
-        let change = add.change;
-        text.push_str(format!(in alloc; "{path} {size} {change};")?.as_str())?;
-    }
-    for remove in state.tombstones() {
-        let path = remove.path.as_str();
-        let deleted = remove.deleted;
-        let change = remove.change;
-        text.push_str(format!(in alloc; "{path} {deleted:?} {change};")?.as_str())?;
-    }
-    for txn in state.txns() {
-        let app = txn.app.as_str();
-        let number = txn.number;
-        text.push_str(format!(in alloc; "{app} {number};")?.as_str())?;
-    }
-    Ok(text)
-}
-
-/// What the plain search finds of all paths and applications, as `walked` writes it.
-fn searched(alloc: Global, commits: &[Vec<Action>]) -> Result<String, AllocError> {
-    let mut text = String::new(alloc);
+/// Whether the live files, in the order of the walk, are those that the plain search finds.
+fn same_files(state: &State, commits: &[Vec<Action>]) -> bool {
+    let mut files = state.files();
     for path in PATHS {
         if let Some(add) = plain::live(commits, path) {
-            let size = add.size;
-            text.push_str(format!(in alloc; "{path} {size} false;")?.as_str())?;
+            match files.next() {
+                Some(file) if file.path == add.path && file.size == add.size && !file.change => {}
+                _ => return false,
+            }
         }
     }
-    for path in PATHS {
-        if let Some(remove) = plain::gone(commits, path) {
-            let deleted = remove.deleted;
-            text.push_str(format!(in alloc; "{path} {deleted:?} false;")?.as_str())?;
-        }
-    }
-    for app in PATHS {
-        if let Some(number) = plain::number(commits, app) {
-            text.push_str(format!(in alloc; "{app} {number};")?.as_str())?;
-        }
-    }
-    Ok(text)
+    files.next().is_none()
 }
 
-fn same(
-    rt: &impl Abort,
-    alloc: Global,
-    state: &State,
-    commits: &[Vec<Action>],
-) -> Result<(), AllocError> {
-    assert_eq!(rt;
-        walked(alloc, state)?.as_str(),
-        searched(alloc, commits)?.as_str()
-    );
-    assert_eq!(rt; state.time(), plain::time(commits));
-    assert_eq!(rt;
-        state.protocol().map(|p| p.reader),
-        plain::protocol(commits).map(|p| p.reader)
-    );
-    assert_eq!(rt;
-        state.meta().map(|m| m.created),
-        plain::meta(commits).map(|m| m.created)
-    );
+fn same_tombstones(state: &State, commits: &[Vec<Action>]) -> bool {
+    let mut tombstones = state.tombstones();
     for path in PATHS {
-        assert_eq!(rt;
-            state.live(path).map(|a| a.size),
-            plain::live(commits, path).map(|a| a.size)
-        );
-        assert_eq!(rt;
-            state.gone(path).map(|r| r.deleted),
-            plain::gone(commits, path).map(|r| r.deleted)
-        );
-        assert_eq!(rt; state.number(path), plain::number(commits, path));
+        if let Some(remove) = plain::gone(commits, path) {
+            match tombstones.next() {
+                Some(gone)
+                    if gone.path == remove.path && gone.deleted == remove.deleted && !gone.change =>
+                    {}
+                _ => return false,
+            }
+        }
     }
-    Ok(())
+    tombstones.next().is_none()
+}
+
+fn same_txns(state: &State, commits: &[Vec<Action>]) -> bool {
+    let mut txns = state.txns();
+    for app in APPS {
+        if let Some(number) = plain::number(commits, app) {
+            match txns.next() {
+                Some(txn) if txn.app.as_str() == app && txn.number == number => {}
+                _ => return false,
+            }
+        }
+    }
+    txns.next().is_none()
+}
+
+fn same(state: &State, commits: &[Vec<Action>]) -> bool {
+    same_files(state, commits)
+        && same_tombstones(state, commits)
+        && same_txns(state, commits)
+        && state.time() == plain::time(commits)
+        && state.protocol().map(|p| p.reader) == plain::protocol(commits).map(|p| p.reader)
+        && state.meta().map(|m| m.created) == plain::meta(commits).map(|m| m.created)
+}
+
+/// The four commits of a table whose file is removed and added again.
+fn four_commits(alloc: Global) -> Result<[Vec<Action>; 4], AllocError> {
+    Ok([
+        vec![in alloc; info(1000), protocol(3), meta(alloc, 1000)?]?,
+        vec![in alloc; info(1001), txn(alloc, "A", 1)?, add(alloc, "a", 10)?]?,
+        vec![in alloc; info(1002), txn(alloc, "A", 2)?, remove(alloc, "a", 1002)?]?,
+        vec![in alloc; info(1003), txn(alloc, "A", 3)?, add(alloc, "a", 30)?]?,
+    ])
 }
 
 #[test]
 fn remove_and_add_again(rt: HostRuntime) -> Result<(), Fail> {
     let alloc = rt.alloc();
-    let first = [info(1000), protocol(3), meta(alloc, 1000)?];
-    let adds = [info(1001), txn(alloc, "A", 1)?, add(alloc, "a", 10)?];
-    let removes = [info(1002), txn(alloc, "A", 2)?, remove(alloc, "a", 1002)?];
-    let again = [info(1003), txn(alloc, "A", 3)?, add(alloc, "a", 30)?];
-    let state = State::empty(alloc)
-        .apply(&first)?
-        .apply(&adds)?
-        .apply(&removes)?;
-    assert_eq!(rt; walked(alloc, &state)?.as_str(), "a Some(1002) false;A 2;");
+    let commits = four_commits(alloc)?;
+    let mut state = State::empty(alloc);
+    for commit in &commits[..3] {
+        state = state.apply(commit.as_slice())?;
+    }
+    assert!(rt; state.live("a").is_none());
+    assert_eq!(rt; state.gone("a").map(|r| r.deleted), Some(Some(1002)));
     assert_eq!(rt; state.time(), Some(1002));
-    let state = state.apply(&again)?;
-    assert_eq!(rt; walked(alloc, &state)?.as_str(), "a 30 false;A 3;");
-    assert_eq!(rt; state.time(), Some(1003));
+    let state = state.apply(commits[3].as_slice())?;
+    assert_eq!(rt; state.live("a").map(|a| a.size), Some(30));
+    assert!(rt; state.gone("a").is_none());
     assert_eq!(rt; state.number("A"), Some(3));
-    assert_eq!(rt; state.protocol().map(|p| p.reader), Some(3));
-    assert_eq!(rt; state.meta().map(|m| m.created), Some(Some(1000)));
-    let copy = state.copy()?;
-    assert_eq!(rt; walked(alloc, &copy)?.as_str(), "a 30 false;A 3;");
-    assert_eq!(rt; copy.with_time(7).time(), Some(7));
+    assert_eq!(rt; state.time(), Some(1003));
+    assert!(rt; same(&state.copy()?, &commits));
+    assert_eq!(rt; state.with_time(7).time(), Some(7));
     Ok(())
 }
 
@@ -198,19 +176,25 @@ fn made_commit(alloc: Global, seed: u64) -> Result<Vec<Action>, AllocError> {
     Ok(actions)
 }
 
+/// Whether a made log has one state, step by step, with the plain search.
+fn made_log_agrees(alloc: Global, seed: u64) -> Result<bool, AllocError> {
+    let mut state = State::empty(alloc);
+    let mut commits = Vec::new(alloc);
+    for version in 0..12u64 {
+        let commit = made_commit(alloc, seed.wrapping_add(version))?;
+        state = state.apply(commit.as_slice())?;
+        commits.push(commit)?;
+        if !same(&state, commits.as_slice()) {
+            return Ok(false);
+        }
+    }
+    Ok(true)
+}
+
 #[test]
 fn made_logs_as_the_plain_search(rt: HostRuntime) -> Result<(), Fail> {
-    let alloc = rt.alloc();
     for log in 0..20u64 {
-        let mut state = State::empty(alloc);
-        let mut commits = Vec::new(alloc);
-        for version in 0..12u64 {
-            let commit = made_commit(alloc, log * 100 + version)?;
-            state = state.apply(commit.as_slice())?;
-            commits.push(commit)?;
-            same(&rt, alloc, &state, commits.as_slice())?;
-            same(&rt, alloc, &state.copy()?, commits.as_slice())?;
-        }
+        assert!(rt; made_log_agrees(rt.alloc(), log * 100)?, "log {log}");
     }
     Ok(())
 }
