@@ -10,3 +10,6 @@ mod store;
 pub use memory::MemStore;
 pub use plan::Fail;
 pub use store::{Bytes, Gone, Put, Store, StoreError};
+
+#[cfg(test)]
+mod tests;
