@@ -115,8 +115,7 @@ impl MemStore {
             self.plan.fail();
             return Err(StoreError::Failed);
         }
-        let there = self.files.has(name);
-        if there {
+        if self.files.has(name) {
             self.files.remove(name);
             self.plan.pass();
             return Ok(Gone::Done);

@@ -35,7 +35,7 @@ pub enum Gone {
 }
 
 /// Why a call of a store has no answer.
-#[derive(Clone, Copy, Debug, Error)]
+#[derive(Clone, Copy, Debug, PartialEq, Eq, Error)]
 pub enum StoreError {
     /// The store failed, and its count of faults rose.
     #[error("the store failed")]
