@@ -1,6 +1,6 @@
 -- How the number of binary digits falls when a number is halved.
-use Rattle.std.proofs.Common.{◌≡◌, ℕ, zero, suc, ◌+◌, ◌-◌, ◌*◌, ◌/◌, ◌^◌, ◌<◌, ◌≤◌, ◌⊎◌, ⊎_elim, refl, subst, arith}
-use Rattle.std.proofs.lemmas.Nat.{leading_length, pow_pos}
+use Rattle.std.proofs.Common.{◌≡◌, ℕ, zero, suc, ◌+◌, ◌*◌, ◌/◌, ◌^◌, ◌<◌, ◌≤◌, ⊎_elim, refl, subst, arith}
+use Rattle.std.proofs.lemmas.Nat.{leading_length}
 use Rattle.std.proofs.Math.Nat.{pow-le-pow_right, pow-suc}
 use Rattle.std.proofs.lemmas.Bool.{cases_lt}
 use Rattle.commit_timestamps.specs.Digits.{binary_digits}
@@ -20,7 +20,7 @@ no_more : (n d e : ℕ) → HasDigits n d → n < 2 ^ e → d ≤ e
 no_more n d e h low =
     ⊎_elim
     (λ (more : e < d). let grown : 2 ^ suc e ≤ 2 ^ d = pow-le-pow_right (omega arith) (omega arith) in
-      let twice : 2 ^ suc e ≡ 2 ^ e * 2 = pow-suc 2 e in absurd (omega (arith, h.reached)))
+    let twice : 2 ^ suc e ≡ 2 ^ e * 2 = pow-suc 2 e in absurd (omega (arith, h.reached)))
     (λ (le : d ≤ e). le) (cases_lt e d)
 
 -- a number above 0 has a digit

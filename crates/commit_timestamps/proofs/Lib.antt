@@ -1,3 +1,4 @@
 pub mod DigitLemmas
 pub mod Narrowing
+pub mod Rising
 pub mod Versions

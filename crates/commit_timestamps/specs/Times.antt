@@ -1,7 +1,7 @@
 -- In-commit timestamps, as the Delta protocol has them: every commit has a time, in milliseconds since 1970, and the times of a
 -- table rise from version to version. So the list of the times of a table has the time of version v at place v.
-use Rattle.std.specs.Prelude.{ℕ, suc, ◌<◌, ◌-◌, ◌^◌, ℤ, pos, ◌+ℤ◌, ◌≤ℤ◌, ◌<ℤ◌, int_lt, int_le, List, [], ◌∷◌, length, Option, Some, None, if◌then◌else◌, slice_index_or, IfSome}
-use Rattle.std.specs.List.{AllPairs, All, slice_get}
+use Rattle.std.specs.Prelude.{ℕ, suc, ◌<◌, ◌-◌, ◌^◌, ℤ, pos, ◌+ℤ◌, ◌≤ℤ◌, ◌<ℤ◌, int_lt, int_le, List, [], ◌∷◌, length, Option, Some, None, if◌then◌else◌, slice_index_or}
+use Rattle.std.specs.List.{AllPairs, All}
 use Rattle.std.specs.Int.{int_max}
 use Rattle.std.specs.Option.{option_map, MatchOption}
 

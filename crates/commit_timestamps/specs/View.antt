@@ -1,6 +1,6 @@
 -- What contracts see of a `Halving`.
-use Rattle.std.specs.Prelude.{ℕ, ◌≡◌, ◌+◌, ◌-◌, ◌/◌, ◌<◌, ◌≤◌, ℤ, ◌≤ℤ◌, ◌<ℤ◌, List, [], ◌∷◌, ◌++◌, Option, Some, None, if◌then◌else◌, nat_lt}
-use Rattle.std.specs.Option.{option_map, option_to_list, MatchOption}
+use Rattle.std.specs.Prelude.{ℕ, ◌+◌, ◌-◌, ◌/◌, ◌≤◌, ℤ, ◌≤ℤ◌, ◌<ℤ◌, List, [], ◌∷◌, ◌++◌, Option, Some, None, if◌then◌else◌, nat_lt}
+use Rattle.std.specs.Option.{MatchOption}
 use Rattle.commit_timestamps.specs.Search.{Search}
 use Rattle.commit_timestamps.specs.Digits.{binary_digits}
 use Rattle.commit_timestamps.specs.declared.halving.Answer.{Answer}
@@ -30,7 +30,7 @@ search_of a = record {
   time = a.time;
   answers = told a.before ++ told a.after;
   asks = middle (low a.before) (high a.len a.after);
-  left = binary_digits (high a.len a.after - low a.before)
+  left = binary_digits (high a.len a.after - low a.before);
 }
 
 -- the answers stand on their sides of the time, in order, and below the number of versions

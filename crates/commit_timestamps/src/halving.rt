@@ -100,10 +100,8 @@ impl Halving {
         ensures time { self.new.time ≡ self.old.time }
 
         // Whatever times agreed before and have this answer agree now.
-        ensures agrees {
-            IfSome self.old.asks (λ v. (times : List ℤ) → Agrees self.old times → HasTime times v time
-              → Agrees self.new times)
-        }
+        ensures agrees { IfSome self.old.asks (λ v. (times : List ℤ) → Agrees self.old times → HasTime times v time
+            → Agrees self.new times) }
 
         ensures fewer { self.new.left < self.old.left }
     {
@@ -121,12 +119,8 @@ impl Halving {
     pub fn result(&self) -> Option<u64>
         requires { IsNone self.now.asks }
 
-        ensures value {
-            (times : List ℤ) → Agrees self.now times → result ≡ version_at times self.now.time
-        }
-        ensures greatest {
-            (times : List ℤ) → Agrees self.now times → IsVersionAt times self.now.time result
-        }
+        ensures value { (times : List ℤ) → Agrees self.now times → result ≡ version_at times self.now.time }
+        ensures greatest { (times : List ℤ) → Agrees self.now times → IsVersionAt times self.now.time result }
     {
         self.before.map(|answer| answer.version)
     }

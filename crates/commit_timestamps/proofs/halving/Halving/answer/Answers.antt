@@ -1,7 +1,6 @@
 -- The answer stands on its side of the time, and at least half of the versions that were left are decided.
-use Rattle.std.proofs.Common.{◌≡◌, ℕ, ◌^◌, ◌<◌, List, arith, rules}
+use Rattle.std.proofs.Common.{◌^◌, ◌<◌, arith, rules}
 use Rattle.std.proofs.Math.Facts.{to_z-of_z}
-use Rattle.commit_timestamps.specs.View.{high}
 use Rattle.commit_timestamps.proofs.Narrowing.{answer_before, answer_after, fewer_above, fewer_below}
 use Rattle.commit_timestamps.proofs.halving.Halving.answer.Goals as goal
 

@@ -1,8 +1,6 @@
 -- With no version asked for, the answer before the time is for the version that is looked for.
-use Rattle.std.proofs.Common.{◌≡◌, ℕ, List, Option, sym, subst, rules, ◌∙◌}
-use Rattle.std.specs.Prelude.{ℤ}
+use Rattle.std.proofs.Common.{◌≡◌, ℕ, Option, sym, subst, rules}
 use Rattle.std.specs.Option.{option_map}
-use Rattle.commit_timestamps.specs.Search.{Agrees}
 use Rattle.commit_timestamps.specs.Times.{IsVersionAt, version_at}
 use Rattle.commit_timestamps.proofs.Narrowing.{result_is}
 use Rattle.commit_timestamps.proofs.Versions.{IsVersionAt-unique, IsVersionAt-version_at}
