@@ -1,5 +1,6 @@
 pub mod Causes
 pub mod Told
 pub mod Calls
+pub mod GivenIds
 pub mod Memory
 pub mod Reading

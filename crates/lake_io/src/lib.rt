@@ -10,5 +10,7 @@ mod input;
 mod output;
 
 pub use answers::{End, ReadFault, WriteFault};
+pub use clocks::{Clock, FixedClock};
+pub use identifiers::{Ids, ListIds};
 pub use input::{MemSource, Source};
 pub use output::{MemSink, Sink, put_all};
