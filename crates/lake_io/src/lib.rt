@@ -8,9 +8,11 @@ mod clocks;
 mod identifiers;
 mod input;
 mod output;
+mod reader;
 
 pub use answers::{End, ReadFault, WriteFault};
 pub use clocks::{Clock, FixedClock};
 pub use identifiers::{Ids, ListIds};
 pub use input::{MemSource, Source};
 pub use output::{MemSink, Sink, put_all};
+pub use reader::{InputState, Line, LineError, Lines, MAX_INPUT, MAX_LINE};
