@@ -6,7 +6,7 @@
 --     Again              what an ended or stopped reader answers
 --     LineCause          when a fault may be answered
 use Rattle.std.specs.Prelude.{◌≡◌, ◌≤◌, ◌<◌, ◌+◌, ◌⊎◌, ℕ, Bool, true, false, List, [], ◌∷◌, ◌++◌, length, Option, Some, None, Result, Ok, Err, IsTrue, ⊤}
-use Rattle.text_lines.specs.Lines.{HasNoLf}
+use Rattle.text_lines.specs.Lines.{HasNoLf, cut, ended_lines}
 use Rattle.lake_io.specs.Causes.{Rose}
 use Rattle.lake_io.specs.Told.{Takes}
 use Rattle.lake_io.specs.declared.reader.InputState.{InputState}
@@ -57,11 +57,13 @@ pub record InputEnds (tells : Bool) (left' : List ℕ) (at : At) (bytes text : L
 
 -- the next line is this text
 pub record Hands (tells : Bool) (left' : List ℕ) (at : At) (bytes text : List ℕ) (at' : At) : Type 0 where
+  pub open_was : at.state ≡ state.Open
   pub no_lf : HasNoLf text
   pub ends : LineEnds at bytes text at' ⊎ InputEnds tells left' at bytes text at'
 
 -- the input has ended, and nothing of it is pending
 pub record Ends (tells : Bool) (left' : List ℕ) (at : At) (bytes : List ℕ) (at' : At) : Type 0 where
+  pub was : (at.state ≡ state.Open) ⊎ (at.state ≡ state.Ended)
   pub none : at.pending ++ bytes ≡ []
   pub whole : at.state ≡ state.Open → IsTrue tells → left' ≡ []
   pub room : at.read + length bytes < input_limit
@@ -69,11 +71,13 @@ pub record Ends (tells : Bool) (left' : List ℕ) (at : At) (bytes : List ℕ) (
 
 -- no LF is left in what was taken, and reading goes on no more
 pub record Stops (at : At) (bytes : List ℕ) (state' : InputState) (at' : At) : Type 0 where
+  pub was : (at.state ≡ state.Open) ⊎ (at.state ≡ state')
   pub no_lf : HasNoLf (at.pending ++ bytes)
   pub is : at' ≡ record { number = at.number; read = at.read + length bytes; pending = []; state = state' }
 
 -- memory ran out, and reading goes on no more
 pub record Loses (at : At) (bytes : List ℕ) (at' : At) : Type 0 where
+  pub was : (at.state ≡ state.Open) ⊎ (at.state ≡ state.Lost)
   pub is : at' ≡ record { number = at.number; read = at.read + length bytes; pending = []; state = state.Lost }
 
 -- the next line and its answer
@@ -121,3 +125,12 @@ pub record Holds (at : At) : Type 0 where
   pub piece : length at.pending ≤ 65536
   pub read : at.read ≤ input_limit
   pub lines : at.number ≤ at.read + 1
+
+-- What a caller knows in a loop over `next`: of a source's bytes these lines were handed, too long ones among them, and the rest is pending.
+pub record Heard (tells : Bool) (left bytes : List ℕ) (handed : List (List ℕ)) (at : At) : Type 0 where
+  pub cut_is : (more : List ℕ) → (at.state ≡ state.Ended → more ≡ []) → cut (bytes ++ more) ≡ handed ++ cut (at.pending ++ more)
+  pub ended_is : at.state ≡ state.Open → (more : List ℕ) → ended_lines (bytes ++ more) ≡ handed ++ ended_lines (at.pending ++ more)
+  pub number_is : at.number ≡ length handed
+  pub read_is : at.read ≡ length bytes
+  pub whole : at.state ≡ state.Ended → IsTrue tells → left ≡ []
+  pub going : (at.state ≡ state.Open) ⊎ (at.state ≡ state.Ended)
