@@ -1,0 +1,7 @@
+pub mod Causes
+pub mod Told
+pub mod Calls
+pub mod Fields
+pub mod GivenIds
+pub mod Memory
+pub mod Reading
