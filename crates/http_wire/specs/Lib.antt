@@ -1,4 +1,5 @@
 -- HTTP/1.1 requests and responses on the wire (RFC 9112).
+pub mod Found
 pub mod Head
 pub mod Named
 pub mod Requests

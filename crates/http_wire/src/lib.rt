@@ -1,4 +1,8 @@
 //! HTTP/1.1 requests and responses on the wire (RFC 9112).
 #![tactic(auto)]
 
+mod front;
 mod head;
+mod request;
+
+pub use request::{Request, WireError};
