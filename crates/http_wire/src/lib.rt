@@ -4,5 +4,7 @@
 mod front;
 mod head;
 mod request;
+mod wire;
 
 pub use request::{Request, WireError};
+pub use wire::WireState;
