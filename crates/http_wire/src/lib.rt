@@ -7,4 +7,4 @@ mod request;
 mod wire;
 
 pub use request::{Request, WireError};
-pub use wire::WireState;
+pub use wire::{Wire, WireState};

@@ -199,4 +199,33 @@ impl Wire {
         self.at = 0;
         self.state = state;
     }
+
+    /// The next request, or `None` at the end of the input between two requests. The bytes are cut into requests in the same way in
+    /// whatever pieces they come. No body has more than `limit` bytes.
+    ///
+    /// `Refuse` for bytes that are no request that is served, by the first status that applies; `Cut` where the input ends inside a
+    /// request; `ReadFault` only where the source failed in this call or it was the last answer; `TooMuch` where the source gave
+    /// 4,294,967,296 bytes and no whole request and no refusal is left of them. After an error each further call answers it again.
+    pub fn next_request<I: Source>(&mut self, source: &mut I, limit: u64) -> Result<Option<Request>, WireError>
+        ensures next { NextBy self.old.state (Next I.tells (I.taken source.old) (I.left source.old) (I.taken source.new) (I.left source.new) limit self.old result self.new) }
+        ensures again { Again source.old source.new self.old result self.new }
+        ensures cause { WireCause (I.faults source.old) (I.faults source.new) self.old result }
+    {
+        match self.state {
+            WireState::Open => {}
+            WireState::Ended => return Ok(None),
+            WireState::Stopped(error) => return Err(error),
+        }
+        match self.read_request(source, limit) {
+            Ok(Some(request)) => Ok(Some(request)),
+            Ok(None) => {
+                self.close(WireState::Ended);
+                Ok(None)
+            }
+            Err(error) => {
+                self.close(WireState::Stopped(error));
+                Err(error)
+            }
+        }
+    }
 }
