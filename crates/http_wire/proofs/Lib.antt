@@ -1,3 +1,4 @@
 pub mod FrontLemmas
 pub mod HeadLemmas
+pub mod Putting
 pub mod Reading

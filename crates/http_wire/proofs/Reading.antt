@@ -16,7 +16,7 @@ told_nil : (tells : Bool) → told tells [] ≡ []
 told_nil true = refl
 told_nil false = refl
 
-told_append : (tells : Bool) (a b : List ℕ) → told tells (a ++ b) ≡ told tells a ++ told tells b
+pub told_append : (tells : Bool) (a b : List ℕ) → told tells (a ++ b) ≡ told tells a ++ told tells b
 told_append true a b = refl
 told_append false a b = refl
 

@@ -20,3 +20,20 @@ reason status =
     else (if status == 503 then codes "Service Unavailable"
     else (if status == 505 then codes "HTTP Version Not Supported"
     else []))))))))))))))
+
+unfoldable pub content_type : Bool → List ℕ
+content_type json = if json then codes "application/json" else codes "application/octet-stream"
+
+-- the end of the head, with a line before it where the connection ends
+unfoldable pub head_end : Bool → List ℕ
+head_end close = if close then codes "\r\nConnection: close\r\n\r\n" else codes "\r\n\r\n"
+
+unfoldable pub status_line : ℕ → List ℕ
+status_line status = codes "HTTP/1.1 " ++ decimal status ++ codes " " ++ reason status
+
+unfoldable pub header_lines : Bool → ℕ → List ℕ
+header_lines json size = codes "\r\nContent-Type: " ++ content_type json ++ codes "\r\nContent-Length: " ++ decimal size
+
+-- a response: its head and its body
+abbrev pub response : ℕ → Bool → Bool → List ℕ → List ℕ
+response status json close body = status_line status ++ header_lines json (length body) ++ head_end close ++ body

@@ -4,7 +4,9 @@
 mod front;
 mod head;
 mod request;
+mod response;
 mod wire;
 
 pub use request::{Request, WireError};
+pub use response::put_response;
 pub use wire::{Wire, WireState};
