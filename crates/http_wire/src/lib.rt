@@ -10,3 +10,6 @@ mod wire;
 pub use request::{Request, WireError};
 pub use response::put_response;
 pub use wire::{Wire, WireState};
+
+#[cfg(test)]
+mod tests;
