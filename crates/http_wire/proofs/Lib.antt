@@ -1,3 +1,4 @@
+pub mod Cutting
 pub mod FrontLemmas
 pub mod HeadLemmas
 pub mod Putting

@@ -7,3 +7,4 @@ pub mod Head
 pub mod Named
 pub mod Requests
 pub mod Responses
+pub mod Stream

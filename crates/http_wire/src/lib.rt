@@ -3,10 +3,12 @@
 
 mod front;
 mod head;
+mod laws;
 mod request;
 mod response;
 mod wire;
 
+pub use laws::{bytes_are_cut_in_one_way, the_request_at_the_front_is_the_first};
 pub use request::{Request, WireError};
 pub use response::put_response;
 pub use wire::{Wire, WireState};
