@@ -1,5 +1,5 @@
 -- The front of the bytes, and the head there.
-use Rattle.std.proofs.Common.{◌≡◌, ℕ, zero, suc, ◌+◌, ◌*◌, ◌<◌, ◌≤◌, ◌⊎◌, inl, inr, Bool, true, List, [], ◌∷◌, ◌++◌, length, get_or, take, drop, map, min, Result, Ok, Err, refl, sym, ◌∙◌, ap, subst, arith, append_assoc, append-nil, length-append, length-drop}
+use Rattle.std.proofs.Common.{◌≡◌, ℕ, ◌+◌, ◌*◌, ◌<◌, ◌≤◌, true, List, [], ◌∷◌, ◌++◌, length, take, drop, Ok, Err, refl, sym, ◌∙◌, ap, subst, arith, append-nil, length-append, length-drop}
 use Rattle.std.specs.List.{All, flat_map}
 use Rattle.std.proofs.lemmas.List.{take_all, take-append-drop, drop-append-le, drop-drop, length-take, length-take-le}
 use Rattle.std.proofs.lemmas.Str.{IsUtf8-from_ascii}
@@ -7,13 +7,13 @@ use Rattle.std.proofs.lemmas.Str.Ascii.{IsAscii-from_all}
 use Rattle.std.specs.Prelude.{IsUtf8}
 use Rattle.std.proofs.lemmas.Bool.Decides.{nat_tests}
 use Rattle.std.proofs.lemmas.List.Elements.{All-head, All-tail, All-weaker}
-use Rattle.httparse.specs.Grammar.{is_token_byte, IsToken, Field, IsField, LineEnd, crlf, lf, print_end, print_field, print_section, RequestHead, IsRequestHead, print_request, ReadsRequest, HasNoRequest, MayBecomeRequest}
-use Rattle.httparse.specs.Spans.{RequestExceeds, IsRequestAt, IsRequestWithin, IsHeaderWithin, header_bytes, name_and_value, span_bytes}
+use Rattle.httparse.specs.Grammar.{is_token_byte, IsToken, Field, IsField, LineEnd, crlf, lf, print_end, print_field, RequestHead, print_request, ReadsRequest, HasNoRequest, MayBecomeRequest}
+use Rattle.httparse.specs.Spans.{RequestExceeds, IsRequestAt, IsRequestWithin}
 use Rattle.httparse.specs.declared.spans.HeaderSpan.{HeaderSpan}
 use Rattle.httparse.specs.declared.spans.RequestSpans.{RequestSpans}
 use Rattle.httparse.proofs.GrammarLemmas.{ReadsRequest-append}
-use Rattle.http_wire.specs.Head.{Header, body_size, size_of}
-use Rattle.http_wire.specs.Requests.{head_limit, HasHead, IsPartOfHead, IsLongHead, IsNoHead, RefusesHead, LacksBody, IsRequest}
+use Rattle.http_wire.specs.Head.{size_of}
+use Rattle.http_wire.specs.Requests.{head_limit, HasHead, IsPartOfHead, IsLongHead, RefusesHead, LacksBody}
 use Rattle.http_wire.specs.Found.{IsHeadAt, AreTexts, IsTaken, TakesRequest}
 use Rattle.http_wire.specs.declared.request.Request.{Request}
 
@@ -25,13 +25,13 @@ length-front : (bytes : List ℕ) → length (take head_limit bytes) ≤ head_li
 length-front bytes = omega (arith, length-take head_limit bytes)
 
 pub part_of_head : (bytes front : List ℕ) → front ≡ take head_limit bytes → length bytes < head_limit → HasNoRequest front → MayBecomeRequest front
-  → IsPartOfHead bytes
+    → IsPartOfHead bytes
 part_of_head bytes front is short none may =
     let same : front ≡ bytes = is ∙ take_short bytes short in
     record { short = short; no_head = subst HasNoRequest same none; may_become = subst MayBecomeRequest same may }
 
 pub long_head : (bytes front : List ℕ) → front ≡ take head_limit bytes → head_limit ≤ length bytes → HasNoRequest front → MayBecomeRequest front
-  → IsLongHead bytes 431
+    → IsLongHead bytes 431
 long_head bytes front is long none may =
     record { long = long; no_head = subst HasNoRequest is none; may_become = subst MayBecomeRequest is may; status_is = refl }
 
@@ -48,7 +48,7 @@ fields_size (f ∷ fields) all =
     let one : 3 ≤ length (print_field f) = field_size f (All-head IsField f fields all) in
     let more : 3 * length fields ≤ length (flat_map print_field fields) = fields_size fields (All-tail IsField f fields all) in
     let sum : length (flat_map print_field (f ∷ fields)) ≡ length (print_field f) + length (flat_map print_field fields) =
-      length-append (print_field f) (flat_map print_field fields) in
+    length-append (print_field f) (flat_map print_field fields) in
     omega arith
 
 head_size : (h : RequestHead) → length (flat_map print_field h.fields) ≤ length (print_request h)
@@ -60,7 +60,7 @@ pub has_room : (bytes front : List ℕ) → front ≡ take head_limit bytes → 
 has_room bytes front is (text, rest, split, h, reads, over) =
     let a : length front ≡ length text + length rest = ap length split ∙ length-append text rest in
     let b : length text + 1 ≡ length (print_request h) =
-      sym (length-append text (10 ∷ [])) ∙ ap length reads.1 ∙ ap length (append-nil (print_request h)) in
+    sym (length-append text (10 ∷ [])) ∙ ap length reads.1 ∙ ap length (append-nil (print_request h)) in
     let d : length front ≡ length (take head_limit bytes) = ap length is in
     omega (arith, fields_size h.fields reads.0.fields, head_size h, length-front bytes)
 
@@ -68,20 +68,20 @@ has_room bytes front is (text, rest, split, h, reads, over) =
 
 -- the bytes begin with the head that the spans cover
 pub head_of : (bytes front : List ℕ) (headers : List HeaderSpan) (spans : RequestSpans) (h : RequestHead) → front ≡ take head_limit bytes
-  → IsRequestWithin front headers spans → IsRequestAt front headers spans h → HasHead bytes h (drop spans.len bytes)
+    → IsRequestWithin front headers spans → IsRequestAt front headers spans h → HasHead bytes h (drop spans.len bytes)
 head_of bytes front headers spans h is within at =
     let len_fits : spans.len ≤ length front = within.section.len_fits in
     let whole : front ++ drop head_limit bytes ≡ bytes =
-      ap (λ (t : List ℕ). t ++ drop head_limit bytes) is ∙ take-append-drop head_limit bytes in
+    ap (λ (t : List ℕ). t ++ drop head_limit bytes) is ∙ take-append-drop head_limit bytes in
     let rest : drop spans.len front ++ drop head_limit bytes ≡ drop spans.len bytes =
-      sym (drop-append-le spans.len front (drop head_limit bytes) len_fits) ∙ ap (drop spans.len) whole in
+    sym (drop-append-le spans.len front (drop head_limit bytes) len_fits) ∙ ap (drop spans.len) whole in
     let d : length front ≡ length (take head_limit bytes) = ap length is in
     record {
       reads =
           subst (λ (t : List ℕ). ReadsRequest bytes h t) rest
           (subst (λ (t : List ℕ). ReadsRequest t h (drop spans.len front ++ drop head_limit bytes)) whole
-            (ReadsRequest-append front h (drop spans.len front) (drop head_limit bytes) at.reads));
-      within = omega (arith, length-front bytes, at.len)
+          (ReadsRequest-append front h (drop spans.len front) (drop head_limit bytes) at.reads));
+      within = omega (arith, length-front bytes, at.len);
     }
 
 token_is_ascii : (b : ℕ) → is_token_byte b ≡ true → b < 128
@@ -94,29 +94,29 @@ token_text bytes token =
     IsUtf8-from_ascii bytes (IsAscii-from_all bytes (All-weaker (λ b. is_token_byte b ≡ true) (λ b. b < 128) token_is_ascii bytes token.1))
 
 pub are_texts : (front : List ℕ) (headers : List HeaderSpan) (spans : RequestSpans) (h : RequestHead) → IsRequestWithin front headers spans
-  → IsRequestAt front headers spans h → AreTexts front spans
+    → IsRequestAt front headers spans h → AreTexts front spans
 are_texts front headers spans h within at =
     record {
       len = within.section.len_fits;
       method_fits = within.method;
       path_fits = within.path;
       method = subst IsUtf8 (sym at.method) (token_text h.method at.reads.0.method);
-      path = subst IsUtf8 (sym at.path) at.reads.0.target_text
+      path = subst IsUtf8 (sym at.path) at.reads.0.target_text;
     }
 
 -- the request that was taken is the one at the front
 pub request_taken : (limit size : ℕ) (bytes front : List ℕ) (headers : List HeaderSpan) (spans : RequestSpans) (h : RequestHead) (found : Request × ℕ)
-  → front ≡ take head_limit bytes → IsRequestWithin front headers spans → IsRequestAt front headers spans h → Ok size ≡ size_of limit h
-  → spans.len + size ≤ length bytes → IsTaken front bytes spans size found → TakesRequest limit bytes found.0 found.1
+    → front ≡ take head_limit bytes → IsRequestWithin front headers spans → IsRequestAt front headers spans h → Ok size ≡ size_of limit h
+    → spans.len + size ≤ length bytes → IsTaken front bytes spans size found → TakesRequest limit bytes found.0 found.1
 request_taken limit size bytes front headers spans h found is within at size_is fits taken =
     let head : HasHead bytes h (drop spans.len bytes) = head_of bytes front headers spans h is within at in
     let after : ℕ = spans.len + size in
     let room : size ≤ length (drop spans.len bytes) = omega (arith, length-drop spans.len bytes) in
     let rest : found.0.body.items ++ drop found.1 bytes ≡ drop spans.len bytes =
-      ap (λ (b : List ℕ). b ++ drop found.1 bytes) taken.body
-      ∙ ap (λ (n : ℕ). take size (drop spans.len bytes) ++ drop n bytes) taken.end
-      ∙ ap (λ (t : List ℕ). take size (drop spans.len bytes) ++ t) (sym (drop-drop size spans.len bytes))
-      ∙ take-append-drop size (drop spans.len bytes) in
+    ap (λ (b : List ℕ). b ++ drop found.1 bytes) taken.body
+    ∙ ap (λ (n : ℕ). take size (drop spans.len bytes) ++ drop n bytes) taken.end
+    ∙ ap (λ (t : List ℕ). take size (drop spans.len bytes) ++ t) (sym (drop-drop size spans.len bytes))
+    ∙ take-append-drop size (drop spans.len bytes) in
     let body_size : length found.0.body.items ≡ size = ap length taken.body ∙ length-take-le size (drop spans.len bytes) room in
     record {
       room = omega (arith, taken.end);
@@ -128,9 +128,9 @@ request_taken limit size bytes front headers spans h found is within at size_is 
             is_request =
                 record {
                   head = subst (λ (t : List ℕ). HasHead bytes h t) (sym rest) head;
-                  size = sym size_is ∙ ap Ok (sym body_size)
-                }
-          }
+                  size = sym size_is ∙ ap Ok (sym body_size);
+                };
+          };
     }
 
 -- what was found of the bytes, said of the front
@@ -142,25 +142,25 @@ pub record OnFront (bytes front : List ℕ) (headers : List HeaderSpan) (spans :
   pub len_fits : spans.len ≤ length bytes
 
 pub on_front : (bytes front : List ℕ) (headers : List HeaderSpan) (spans : RequestSpans) → front ≡ take head_limit bytes → IsHeadAt bytes headers spans
-  → OnFront bytes front headers spans
+    → OnFront bytes front headers spans
 on_front bytes front headers spans is found =
     record {
       is = is;
       within = subst (λ (t : List ℕ). IsRequestWithin t headers spans) (sym is) found.within;
       h = found.h;
       at = subst (λ (t : List ℕ). IsRequestAt t headers spans found.h) (sym is) found.at;
-      len_fits = omega (arith, found.within.section.len_fits, length-take head_limit bytes)
+      len_fits = omega (arith, found.within.section.len_fits, length-take head_limit bytes);
     }
 
 -- a head that is refused
 pub refused_head : (limit status : ℕ) (bytes front : List ℕ) (headers : List HeaderSpan) (spans : RequestSpans) (on : OnFront bytes front headers spans)
-  → Err status ≡ size_of limit on.h → RefusesHead limit bytes status
+    → Err status ≡ size_of limit on.h → RefusesHead limit bytes status
 refused_head limit status bytes front headers spans on e =
     record { h = on.h; rest = drop spans.len bytes; head = head_of bytes front headers spans on.h on.is on.within on.at; refusal = sym e }
 
 -- a head whose body is not there yet
 pub lacks_body : (limit size : ℕ) (bytes front : List ℕ) (headers : List HeaderSpan) (spans : RequestSpans) (on : OnFront bytes front headers spans)
-  → Ok size ≡ size_of limit on.h → length bytes < spans.len + size → LacksBody limit bytes
+    → Ok size ≡ size_of limit on.h → length bytes < spans.len + size → LacksBody limit bytes
 lacks_body limit size bytes front headers spans on e less =
     record {
       h = on.h;
@@ -168,5 +168,5 @@ lacks_body limit size bytes front headers spans on e less =
       size = size;
       head = head_of bytes front headers spans on.h on.is on.within on.at;
       size_is = sym e;
-      lacking = omega (arith, length-drop spans.len bytes, on.len_fits)
+      lacking = omega (arith, length-drop spans.len bytes, on.len_fits);
     }

@@ -15,15 +15,15 @@ values_named-push name (g ∷ hs) h =
     [ true ↦ ap (λ (vs : List (List ℕ)). g.1 ∷ vs) (values_named-push name hs h) | false ↦ values_named-push name hs h ]
 
 pub values_named_more : {X : Type 0} (f : X → Header) (name : List ℕ) (xs : List X) (i : ℕ) (d : X) → i < length xs
-  → values_named name (map f (take (i + 1) xs)) ≡ values_named name (map f (take i xs)) ++ cond (is_named (f (get_or xs i d)).0 name) ((f (get_or xs i d)).1 ∷ []) []
+    → values_named name (map f (take (i + 1) xs)) ≡ values_named name (map f (take i xs)) ++ cond (is_named (f (get_or xs i d)).0 name) ((f (get_or xs i d)).1 ∷ []) []
 values_named_more f name xs i d h =
     ap (λ ys. values_named name (map f ys)) (take_more xs i d h) ∙ ap (values_named name) (map-append f (take i xs) (get_or xs i d ∷ []))
     ∙ values_named-push name (map f (take i xs)) (f (get_or xs i d))
 
 -- the same as the loop meets it
 pub values_more : {X : Type 0} (f : X → Header) (name : List ℕ) (xs : List X) (i : ℕ) (d : X) → i < length xs → (named : Bool) (n v : List ℕ)
-  → named ≡ is_named n name → n ≡ (f (get_or xs i d)).0 → v ≡ (f (get_or xs i d)).1
-  → values_named name (map f (take i xs)) ++ cond named (v ∷ []) [] ≡ values_named name (map f (take (i + 1) xs))
+    → named ≡ is_named n name → n ≡ (f (get_or xs i d)).0 → v ≡ (f (get_or xs i d)).1
+    → values_named name (map f (take i xs)) ++ cond named (v ∷ []) [] ≡ values_named name (map f (take (i + 1) xs))
 values_more f name xs i d within named n v is n_is v_is =
     let is' : named ≡ is_named (f (get_or xs i d)).0 name = is ∙ ap (λ (m : List ℕ). is_named m name) n_is in
     ap (λ (t : List (List ℕ)). values_named name (map f (take i xs)) ++ t)

@@ -1,5 +1,5 @@
 -- A response that is written in two parts.
-use Rattle.std.proofs.Common.{◌≡◌, ℕ, ◌+◌, ◌<◌, ◌≤◌, Bool, true, false, List, [], ◌∷◌, ◌++◌, length, Result, Ok, Err, refl, sym, ◌∙◌, ap, arith, append_assoc, length-append}
+use Rattle.std.proofs.Common.{◌≡◌, ℕ, Bool, List, ◌++◌, Result, Ok, Err, sym, ◌∙◌, ap, arith, append_assoc, length-append}
 use Rattle.std.specs.Result.{MatchResult}
 use Rattle.lake_io.specs.Told.{WritesSome, told}
 use Rattle.http_wire.proofs.Reading.{told_append}
@@ -21,7 +21,7 @@ puts_first tells w head body w' some =
       lacking = some.lacking ++ body;
       some = omega (arith, some.some, length-append some.lacking body);
       all = ap (λ (t : List ℕ). t ++ body) some.all ∙ append_assoc some.part some.lacking body;
-      is = some.is
+      is = some.is;
     }
 
 both : (tells : Bool) (w head body w' w'' : List ℕ) → w' ≡ w ++ told tells head → w'' ≡ w' ++ told tells body → w'' ≡ w ++ told tells (head ++ body)
@@ -31,8 +31,8 @@ both tells w head body w' w'' p q =
 
 -- the first part was written
 pub puts_second : {X E : Type 0} (tells : Bool) (w head body w' w'' : List ℕ) (r : Result X E) → w' ≡ w ++ told tells head
-  → MatchResult r (λ _. w'' ≡ w' ++ told tells body) (λ _. WritesSome tells w' body w'')
-  → MatchResult r (λ _. w'' ≡ w ++ told tells (head ++ body)) (λ _. WritesSome tells w (head ++ body) w'')
+    → MatchResult r (λ _. w'' ≡ w' ++ told tells body) (λ _. WritesSome tells w' body w'')
+    → MatchResult r (λ _. w'' ≡ w ++ told tells (head ++ body)) (λ _. WritesSome tells w (head ++ body) w'')
 puts_second tells w head body w' w'' (Ok x) p q = both tells w head body w' w'' p q
 puts_second tells w head body w' w'' (Err e) p q =
     record {
@@ -40,5 +40,5 @@ puts_second tells w head body w' w'' (Err e) p q =
       lacking = q.lacking;
       some = q.some;
       all = ap (λ (t : List ℕ). head ++ t) q.all ∙ sym (append_assoc head q.part q.lacking);
-      is = both tells w head q.part w' w'' p q.is
+      is = both tells w head q.part w' w'' p q.is;
     }

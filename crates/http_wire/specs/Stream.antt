@@ -1,5 +1,5 @@
 -- The whole input of a connection: requests one after another, and how it ends.
-use Rattle.std.specs.Prelude.{ℕ, ◌≡◌, ◌<◌, ◌≤◌, ◌⊎◌, List, [], ◌++◌, length, Ok, All}
+use Rattle.std.specs.Prelude.{ℕ, ◌≡◌, ◌<◌, ◌≤◌, List, [], ◌++◌, length, Ok, All}
 use Rattle.std.specs.List.{flat_map}
 use Rattle.httparse.specs.Grammar.{RequestHead, IsRequestHead, print_request}
 use Rattle.http_wire.specs.Head.{size_of}
@@ -35,3 +35,8 @@ pub record Splits (limit : ℕ) (bytes : List ℕ) (requests : List Sent) (end :
   pub whole : bytes ≡ flat_map sent_bytes requests ++ rest
   pub served : All (IsServed limit) requests
   pub ends : EndsBy limit rest end
+
+-- What a caller knows in a loop over the requests: of these bytes these requests were handed, and the rest is pending.
+pub record Heard (limit : ℕ) (bytes : List ℕ) (handed : List Sent) (pending : List ℕ) : Type 0 where
+  pub whole : bytes ≡ flat_map sent_bytes handed ++ pending
+  pub served : All (IsServed limit) handed

@@ -62,12 +62,23 @@ fn name_of(alloc: Global, bytes: &[u8]) -> Result<Name, AllocError>
 }
 
 /// The size of the body of the head that the spans cover, or the status of the refusal.
-fn head_size(limit: u64, front: &[u8], headers: &[HeaderSpan], spans: RequestSpans) -> Result<u64, u16>
+fn head_size(
+    limit: u64,
+    front: &[u8],
+    headers: &[HeaderSpan],
+    spans: RequestSpans,
+) -> Result<u64, u16>
     requires { IsRequestWithin front.now headers.now spans }
     ensures { (h : RequestHead) → IsRequestAt front.now headers.now spans h → result ≡ size_of limit h }
 {
     let method = spans.method.of(front);
-    find_body_size(limit, front, method, spans.version, &headers[..spans.headers])
+    find_body_size(
+        limit,
+        front,
+        method,
+        spans.version,
+        &headers[..spans.headers],
+    )
 }
 
 /// The request of a head in `front` and a body of this size after the head. It has so many bytes.

@@ -113,7 +113,13 @@ fn size_by_values(limit: u64, method: &[u8], values: Values<'_>) -> Result<u64, 
 }
 
 /// The size of the body of a request, or the status by which it is refused.
-pub fn find_body_size(limit: u64, front: &[u8], method: &[u8], minor: u8, headers: &[HeaderSpan]) -> Result<u64, u16>
+pub fn find_body_size(
+    limit: u64,
+    front: &[u8],
+    method: &[u8],
+    minor: u8,
+    headers: &[HeaderSpan],
+) -> Result<u64, u16>
     requires { (k : ℕ) (d : TheSpan) → k < length headers.now → IsHeaderWithin (length front.now) (slice_index_or headers.now k d) }
     ensures { result ≡ body_size limit method.now minor (map (header_bytes front.now) headers.now) }
 {

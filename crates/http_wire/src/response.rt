@@ -98,7 +98,13 @@ fn push_header_lines(head: &mut ArrayString<HEAD_ROOM>, json: bool, size: u64)
 
 /// Writes a response: the status with its reason phrase, the type and the length of the body, that the connection ends where
 /// `close` is true, and the body. Where a write fails, a part was written that lacks at least the last byte. It takes no memory.
-pub fn put_response<O: Sink>(sink: &mut O, status: u16, json: bool, close: bool, body: &[u8]) -> Result<(), WriteFault>
+pub fn put_response<O: Sink>(
+    sink: &mut O,
+    status: u16,
+    json: bool,
+    close: bool,
+    body: &[u8],
+) -> Result<(), WriteFault>
     ensures puts { MatchResult result (λ _. O.written sink.new ≡ O.written sink.old ++ told O.tells (response status json close body.now)) (λ _. WritesSome O.tells (O.written sink.old) (response status json close body.now) (O.written sink.new)) }
     ensures cause { HasCause (O.faults sink.old) (O.faults sink.new) result }
 {

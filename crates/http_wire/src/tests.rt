@@ -17,7 +17,12 @@ fn add_error(text: &mut String, error: WireError) -> Result<(), AllocError> {
 }
 
 // Each request as its method, its target and the length of its body, and the end. An error is asked for twice.
-fn reading(alloc: Global, bytes: &[u8], piece: usize, fails: Vec<u64>) -> Result<String, AllocError> {
+fn reading(
+    alloc: Global,
+    bytes: &[u8],
+    piece: usize,
+    fails: Vec<u64>,
+) -> Result<String, AllocError> {
     let mut source = MemSource::new(Vec::from_slice(alloc, bytes)?, piece.max(1), fails);
     let mut wire = Wire::new(alloc)?;
     let mut text = String::new(alloc);
@@ -53,18 +58,48 @@ fn reads_requests_in_any_pieces(rt: HostRuntime) -> Result<(), Fail> {
         ("", "end"),
         ("GET / HTTP/1.1\r\n\r\n", "GET / 0, end"),
         ("GET / HTTP/1.1\n\n", "GET / 0, end"),
-        ("\r\n\r\nDELETE /a?b=c HTTP/1.1\r\nHost: x\r\n\r\n", "DELETE /a?b=c 0, end"),
-        ("POST /a HTTP/1.1\r\ncontent-LENGTH: 3 \r\n\r\nabcPUT /b HTTP/1.1\r\nContent-Length: 0\r\n\r\nGET /c HTTP/1.1\r\n\r\n", "POST /a 3, PUT /b 0, GET /c 0, end"),
-        ("GET / HTTP/1.1\r\nContent-Length: 0000000002\r\n\r\nxyGET", "GET / 2, cut"),
-        ("GET / HTTP/1.0\r\nTransfer-Encoding: chunked\r\n\r\n", "refuse 505"),
-        ("POST / HTTP/1.1\r\nTRANSFER-encoding: chunked\r\nContent-Length: +5\r\n\r\n", "refuse 501"),
-        ("POST / HTTP/1.1\r\nContent-Length: 5\r\nContent-Length: 5\r\n\r\n", "refuse 400"),
-        ("POST / HTTP/1.1\r\nContent-Length: +5\r\n\r\n", "refuse 400"),
-        ("POST / HTTP/1.1\r\nContent-Length: 00000000005\r\n\r\n", "refuse 400"),
+        (
+            "\r\n\r\nDELETE /a?b=c HTTP/1.1\r\nHost: x\r\n\r\n",
+            "DELETE /a?b=c 0, end",
+        ),
+        (
+            "POST /a HTTP/1.1\r\ncontent-LENGTH: 3 \r\n\r\nabcPUT /b HTTP/1.1\r\nContent-Length: 0\r\n\r\nGET /c HTTP/1.1\r\n\r\n",
+            "POST /a 3, PUT /b 0, GET /c 0, end",
+        ),
+        (
+            "GET / HTTP/1.1\r\nContent-Length: 0000000002\r\n\r\nxyGET",
+            "GET / 2, cut",
+        ),
+        (
+            "GET / HTTP/1.0\r\nTransfer-Encoding: chunked\r\n\r\n",
+            "refuse 505",
+        ),
+        (
+            "POST / HTTP/1.1\r\nTRANSFER-encoding: chunked\r\nContent-Length: +5\r\n\r\n",
+            "refuse 501",
+        ),
+        (
+            "POST / HTTP/1.1\r\nContent-Length: 5\r\nContent-Length: 5\r\n\r\n",
+            "refuse 400",
+        ),
+        (
+            "POST / HTTP/1.1\r\nContent-Length: +5\r\n\r\n",
+            "refuse 400",
+        ),
+        (
+            "POST / HTTP/1.1\r\nContent-Length: 00000000005\r\n\r\n",
+            "refuse 400",
+        ),
         ("POST / HTTP/1.1\r\nContent-Length: \r\n\r\n", "refuse 400"),
         ("POST / HTTP/1.1\r\n\r\n", "refuse 411"),
-        ("PUT / HTTP/1.1\r\nX-Content-Length: 5\r\n\r\n", "refuse 411"),
-        ("GET / HTTP/1.1\r\nContent-Length: 1001\r\n\r\n", "refuse 413"),
+        (
+            "PUT / HTTP/1.1\r\nX-Content-Length: 5\r\n\r\n",
+            "refuse 411",
+        ),
+        (
+            "GET / HTTP/1.1\r\nContent-Length: 1001\r\n\r\n",
+            "refuse 413",
+        ),
         ("GET / HTTP/1.1\r\nno colon\r\n\r\n", "refuse 400"),
         ("GET /\r\n", "refuse 400"),
         ("GET / HTTP/2.0\r\n\r\n", "refuse 400"),
@@ -132,12 +167,16 @@ fn writes_responses(rt: HostRuntime) -> Result<(), Fail> {
     assert!(rt; put_response(&mut sink, 200, true, false, b"{\"latest\":1,\"version\":1}").is_ok());
     assert!(rt; put_response(&mut sink, 404, false, true, b"").is_ok());
     assert!(rt; put_response(&mut sink, 418, true, false, b"x").is_ok());
-    let want = b"HTTP/1.1 200 OK\r\nContent-Type: application/json\r\nContent-Length: 24\r\n\r\n{\"latest\":1,\"version\":1}HTTP/1.1 404 Not Found\r\nContent-Type: application/octet-stream\r\nContent-Length: 0\r\nConnection: close\r\n\r\nHTTP/1.1 418 \r\nContent-Type: application/json\r\nContent-Length: 1\r\n\r\nx";
+    let want =
+        b"HTTP/1.1 200 OK\r\nContent-Type: application/json\r\nContent-Length: 24\r\n\r\n{\"latest\":1,\"version\":1}HTTP/1.1 404 Not Found\r\nContent-Type: application/octet-stream\r\nContent-Length: 0\r\nConnection: close\r\n\r\nHTTP/1.1 418 \r\nContent-Type: application/json\r\nContent-Length: 1\r\n\r\nx";
     assert!(rt; sink.written() == want.as_slice());
 
     let mut failing = MemSink::new(rt.alloc(), vec![in rt.alloc(); 2]?);
-    assert!(rt; put_response(&mut failing, 431, true, true, b"{\"error\":\"http\"}") == Err(WriteFault));
-    let head = b"HTTP/1.1 431 Request Header Fields Too Large\r\nContent-Type: application/json\r\nContent-Length: 16\r\nConnection: close\r\n\r\n";
+    assert!(rt;
+        put_response(&mut failing, 431, true, true, b"{\"error\":\"http\"}") == Err(WriteFault)
+    );
+    let head =
+        b"HTTP/1.1 431 Request Header Fields Too Large\r\nContent-Type: application/json\r\nContent-Length: 16\r\nConnection: close\r\n\r\n";
     assert!(rt; failing.written() == head.as_slice());
     Ok(())
 }

@@ -1,5 +1,5 @@
 //! The requests of a connection.
-ghost use Rattle.std.specs.Prelude.{◌≡◌, ◌<◌, ◌≤◌, ◌++◌, [], IfOk, MatchResult, MatchBool, Err, length, min, take, drop, vec_len};
+ghost use Rattle.std.specs.Prelude.{◌≡◌, ◌<◌, ◌≤◌, ◌++◌, [], IfOk, OnSome, MatchResult, MatchBool, Err, length, min, take, drop, vec_len};
 ghost use Rattle.lake_io.specs.Causes.{HasCause, Rose};
 ghost use Rattle.lake_io.specs.Told.{Reads, Takes};
 ghost use Rattle.http_wire.specs.Connection.{at_start, Again, Next, NextBy, WireCause};
@@ -52,7 +52,11 @@ fn read_front<I: Source>(source: &mut I, piece: &mut [u8], room: usize) -> Resul
 }
 
 /// The same of a piece that keeps its length.
-fn read_piece<I: Source>(source: &mut I, piece: &mut Vec<u8>, room: usize) -> Result<usize, ReadFault>
+fn read_piece<I: Source>(
+    source: &mut I,
+    piece: &mut Vec<u8>,
+    room: usize,
+) -> Result<usize, ReadFault>
     requires some { 0 < room }
     requires fits { room ≤ vec_len piece.old }
     ensures gives { MatchResult result (λ n. Reads I.tells (I.taken source.old) (I.left source.old) (take room piece.new.items) n (I.taken source.new) (I.left source.new)) (λ _. Takes I.tells (I.taken source.old) (I.left source.old) [] (I.taken source.new) (I.left source.new)) }
@@ -171,8 +175,13 @@ impl Wire {
     }
 
     /// The next request, or why there is none, of an open reader.
-    fn read_request<I: Source>(&mut self, source: &mut I, limit: u64) -> Result<Option<Request>, WireError>
+    fn read_request<I: Source>(
+        &mut self,
+        source: &mut I,
+        limit: u64,
+    ) -> Result<Option<Request>, WireError>
         requires { self.old.state ≡ WireState.Open }
+        ensures holds { length self.old.pending ≤ 65536 → IfOk result (λ found. OnSome found (length self.new.pending ≤ 65536)) }
         ensures asks { Asks I.tells (I.taken source.old) (I.left source.old) (I.taken source.new) (I.left source.new) limit self.old result self.new }
         ensures later { I.faults source.old ≤ I.faults source.new }
         ensures cause { result ≡ Err WireError.ReadFault → Rose (I.faults source.old) (I.faults source.new) }
@@ -206,9 +215,15 @@ impl Wire {
     /// `Refuse` for bytes that are no request that is served, by the first status that applies; `Cut` where the input ends inside a
     /// request; `ReadFault` only where the source failed in this call or it was the last answer; `TooMuch` where the source gave
     /// 4,294,967,296 bytes and no whole request and no refusal is left of them. After an error each further call answers it again.
-    pub fn next_request<I: Source>(&mut self, source: &mut I, limit: u64) -> Result<Option<Request>, WireError>
+    pub fn next_request<I: Source>(
+        &mut self,
+        source: &mut I,
+        limit: u64,
+    ) -> Result<Option<Request>, WireError>
         ensures next { NextBy self.old.state (Next I.tells (I.taken source.old) (I.left source.old) (I.taken source.new) (I.left source.new) limit self.old result self.new) }
         ensures again { Again source.old source.new self.old result self.new }
+        // Between two calls no more than a piece is held.
+        ensures holds { length self.old.pending ≤ 65536 → length self.new.pending ≤ 65536 }
         ensures cause { WireCause (I.faults source.old) (I.faults source.new) self.old result }
     {
         match self.state {

@@ -13,6 +13,6 @@ loop-header-preserved c =
     let within : c.loop-header.header-index < length c.args.headers.now = omega arith in
     subst (λ (vs : List (List ℕ)). AreValues c.with_value-values.result vs)
     (values_more (header_bytes c.args.front.now) c.args.name.now c.args.headers.now c.loop-header.header-index
-      (record { name = record { start = 0; end = 0 }; value = record { start = 0; end = 0 } }) within c.is_header_named-is_named.result
-      c.of.result.now c.of-in-loop-header.result.now c.is_header_named-is_named.ensures c.of.ensures c.of-in-loop-header.ensures)
+    (record { name = record { start = 0; end = 0 }; value = record { start = 0; end = 0 } }) within c.is_header_named-is_named.result
+    c.of.result.now c.of-in-loop-header.result.now c.is_header_named-is_named.ensures c.of.ensures c.of-in-loop-header.ensures)
     (c.with_value-values.ensures _ c.loop-header.invariant)
