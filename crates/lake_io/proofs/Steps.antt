@@ -1,6 +1,8 @@
 -- One call of `next`, put together from its steps.
-use Rattle.std.proofs.Common.{◌≡◌, ◌≤◌, ◌<◌, ◌+◌, ◌⊎◌, inl, inr, ℕ, Bool, true, false, List, [], ◌∷◌, ◌++◌, length, refl, ap, sym, ◌∙◌, subst, append_assoc, append-nil, length-append, arith, Option, Some, None, Result, Ok, Err}
+use Rattle.std.proofs.Common.{◌≡◌, ◌≤◌, ◌<◌, ◌≢◌, ◌+◌, take, ◌⊎◌, inl, inr, ℕ, Bool, true, false, List, [], ◌∷◌, ◌++◌, length, refl, ap, sym, ◌∙◌, subst, append_assoc, append-nil, length-append, arith, Option, Some, None, Result, Ok, Err}
 use Rattle.std.specs.Prelude.{IsTrue}
+use Rattle.std.proofs.lemmas.List.Elements.{All-take}
+use Rattle.std.proofs.Math.Seq.{take-append_seam}
 use Rattle.text_lines.specs.Lines.{HasNoLf}
 use Rattle.lake_io.specs.Told.{Takes}
 use Rattle.lake_io.specs.Reading.{Answers, At, Ends, Handed, Hands, HandsLine, Next, input_limit}
@@ -45,6 +47,7 @@ line_whole tells t l t' l' at at' at'' part part' result o i m handed =
     record {
       bytes = i.bytes;
       takes = i.takes;
+      asked = i.asked;
       answers = answers_line tells l' at i.bytes text (at.number + 1) result at'' given (record { text = text; handed = given; hands = hands });
     }
 
@@ -52,6 +55,13 @@ pub exit_line : (tells : Bool) (t l t' l' : List ℕ) (at at' at'' : At) (part p
 exit_line tells t l t' l' at at' at'' part part' found result o i e moves handed =
     let m : Moves at' i.text true at'' part' = rw e at (moves i.text i.part_is) in
     line_whole tells t l t' l' at at' at'' part part' result o i m handed
+
+-- a text without LF has none in its front
+no_lf_before : (front rest whole : List ℕ) → front ++ rest ≡ whole → HasNoLf whole → HasNoLf front
+no_lf_before front rest whole e h =
+    let P : List ℕ → Type 0 = λ xs. HasNoLf xs in
+    let all : HasNoLf (take (length front) (front ++ rest)) = All-take (λ x. x ≢ 10) (length front) (front ++ rest) (subst P (sym e) h) in
+    subst P (take-append_seam front rest) all
 
 -- no LF was pending, and the source gave more
 more_line : (tells : Bool) (t l t' l' t'' l'' : List ℕ) (at at' mid at'' : At) (part part' : Part) → (i : InLine tells t l at t' l' at' part) → MovesAll at' i.text mid part' → FillsSome tells t' l' mid t'' l'' at'' → InLine tells t l at t'' l'' at'' part'
@@ -65,6 +75,7 @@ more_line tells t l t' l' t'' l'' at at' mid at'' part part' i m f =
       bytes = i.bytes ++ f.bytes;
       text = i.text ++ at'.pending;
       takes = takes_both tells t l i.bytes t' l' f.bytes t'' l'' i.takes f.takes;
+      asked = inr (no_lf_before at.pending i.bytes (i.text ++ at'.pending) i.split m.part.no_lf);
       split = sym (append_assoc at.pending i.bytes f.bytes) ∙ (ap (λ xs. xs ++ f.bytes) i.split ∙ ap (λ xs. (i.text ++ at'.pending) ++ xs) (sym pending));
       is = is ∙ (ap (λ n. place at.number n f.bytes state.Open) count ∙ ap (λ xs. place at.number (at.read + length (i.bytes ++ f.bytes)) xs state.Open) (sym pending));
       part_is = m.part;
@@ -97,7 +108,7 @@ last_line tells t l t' l' t'' l'' at at' mid end at'' part part' result o i m f 
             is = d.is ∙ ap h ended;
           }
           in
-          record { bytes = i.bytes; takes = takes; answers = rw (d.result_is) ends })
+          record { bytes = i.bytes; takes = takes; asked = i.asked; answers = rw (d.result_is) ends })
       | inr d ↦
           (let h : At → At = λ a. place (a.number + 1) a.read [] state.Ended in
           let P : ℕ → Type 0 = λ n. Handed (n + 1) text result in
@@ -111,6 +122,7 @@ last_line tells t l t' l' t'' l'' at at' mid end at'' part part' result o i m f 
           record {
             bytes = i.bytes;
             takes = takes;
+          asked = i.asked;
             answers = answers_line tells l'' at i.bytes text (at.number + 1) result at'' given (record { text = text; handed = given; hands = hands });
           })
     ]

@@ -1,5 +1,5 @@
 -- A line that is read in parts.
-use Rattle.std.specs.Prelude.{◌≡◌, ◌≤◌, ◌<◌, ◌+◌, ℕ, Bool, true, false, List, [], ◌∷◌, ◌++◌, length, take, drop, IsTrue, Option, None, Result, Ok, Err}
+use Rattle.std.specs.Prelude.{◌≡◌, ◌⊎◌, ◌≤◌, ◌<◌, ◌+◌, ℕ, Bool, true, false, List, [], ◌∷◌, ◌++◌, length, take, drop, IsTrue, Option, None, Result, Ok, Err}
 use Rattle.text_lines.specs.Lines.{HasNoLf}
 use Rattle.lake_io.specs.Reading.{At, Handed, input_limit, line_limit}
 use Rattle.lake_io.specs.Told.{Takes}
@@ -83,6 +83,7 @@ pub record InLine (tells : Bool) (taken left : List ℕ) (at : At) (taken' left'
   pub bytes : List ℕ
   pub text : List ℕ
   pub takes : Takes tells taken left bytes taken' left'
+  pub asked : (bytes ≡ []) ⊎ HasNoLf at.pending
   pub split : at.pending ++ bytes ≡ text ++ at'.pending
   pub is : at' ≡ record { number = at.number; read = at.read + length bytes; pending = at'.pending; state = state.Open }
   pub part_is : IsPart part text

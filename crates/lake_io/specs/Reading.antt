@@ -94,9 +94,11 @@ Answers tells left' at bytes (Err (error.TooLong n)) at' = HandsLine tells left'
 Answers tells left' at bytes (Err error.TooMuch) at' = Stops at bytes state.Full at' × (at.read + length bytes ≡ input_limit)
 Answers tells left' at bytes (Err error.Memory) at' = Loses at bytes at'
 
+-- bytes were taken only where no LF was pending: a line that was read whole is answered before more is asked for
 pub record Next (tells : Bool) (taken left taken' left' : List ℕ) (at : At) (result : Result (Option Line) LineError) (at' : At) : Type 0 where
   pub bytes : List ℕ
   pub takes : Takes tells taken left bytes taken' left'
+  pub asked : (bytes ≡ []) ⊎ HasNoLf at.pending
   pub answers : Answers tells left' at bytes result at'
 
 -- an answer that is given again and again: neither the reader nor the source changes
