@@ -122,7 +122,7 @@ last_line tells t l t' l' t'' l'' at at' mid end at'' part part' result o i m f 
           record {
             bytes = i.bytes;
             takes = takes;
-          asked = i.asked;
+            asked = i.asked;
             answers = answers_line tells l'' at i.bytes text (at.number + 1) result at'' given (record { text = text; handed = given; hands = hands });
           })
     ]
