@@ -16,3 +16,6 @@ pub use identifiers::{Ids, ListIds};
 pub use input::{MemSource, Source, StdSource};
 pub use output::{MemSink, Sink, StdSink, put_all};
 pub use reader::{InputState, Line, LineError, Lines, MAX_INPUT, MAX_LINE};
+
+#[cfg(test)]
+mod tests;
