@@ -1,12 +1,10 @@
 -- The steps of a reader of lines: what is pending goes over to a line, and the source fills the piece again.
-use Rattle.std.proofs.Common.{◌≡◌, ◌≤◌, ◌<◌, ◌+◌, ◌-◌, ◌⊎◌, inl, inr, ℕ, Bool, true, false, List, [], ◌∷◌, ◌++◌, length, take, drop, refl, ap, sym, ◌∙◌, subst, append_assoc, append-nil, length-append, length-drop, length-take, arith}
+use Rattle.std.proofs.Common.{◌≡◌, ◌≤◌, ◌<◌, ◌+◌, ◌-◌, ℕ, Bool, List, ◌++◌, length, take, drop, refl, ap, sym, ◌∙◌, subst, length-take, arith}
 use Rattle.std.proofs.lemmas.List.{drop-take, drop-drop, take-take, length-take-le}
-use Rattle.text_lines.specs.Lines.{HasNoLf}
 use Rattle.lake_io.specs.Parts.{FillsSome, IsFirstLf, IsPart, MovesLine}
 use Rattle.lake_io.specs.Reading.{At, input_limit}
 use Rattle.lake_io.specs.Told.{Reads, Takes}
 use Rattle.lake_io.specs.declared.reader.InputState.{InputState}
-use Rattle.lake_io.specs.declared.reader.InputState.TheVariants as state
 use Rattle.lake_io.specs.declared.reader.Part.{Part}
 
 rest_pending : (piece : List ℕ) (start end n : ℕ) → start + n ≤ end → drop n (take (end - start) (drop start piece)) ≡ take (end - (start + n)) (drop (start + n) piece)

@@ -5,7 +5,7 @@
 --     Next               the bytes that the call took from the source, and its answer
 --     Again              what an ended or stopped reader answers
 --     LineCause          when a fault may be answered
-use Rattle.std.specs.Prelude.{◌≡◌, ◌≤◌, ◌<◌, ◌+◌, ◌⊎◌, ℕ, Bool, true, false, List, [], ◌∷◌, ◌++◌, length, Option, Some, None, Result, Ok, Err, IsTrue, ⊤}
+use Rattle.std.specs.Prelude.{◌≡◌, ◌≤◌, ◌<◌, ◌+◌, ◌⊎◌, ℕ, Bool, List, [], ◌∷◌, ◌++◌, length, Option, Some, None, Result, Ok, Err, IsTrue, ⊤}
 use Rattle.text_lines.specs.Lines.{HasNoLf, cut, ended_lines}
 use Rattle.lake_io.specs.Causes.{Rose}
 use Rattle.lake_io.specs.Told.{Takes}

@@ -1,6 +1,6 @@
-use Rattle.std.proofs.Common.{◌≡◌, ◌+◌, ◌-◌, ◌++◌, List, ℕ, ap, subst, take, drop}
+use Rattle.std.proofs.Common.{◌+◌, ◌-◌, List, ℕ, ap, subst, take, drop}
 use Rattle.lake_io.specs.Reading.{At}
-use Rattle.lake_io.specs.Parts.{IsPart, MovesLine}
+use Rattle.lake_io.specs.Parts.{MovesLine}
 use Rattle.lake_io.proofs.Moving.{moves_line}
 use Rattle.lake_io.proofs.reader.Lines.take_part.Goals as goal
 
