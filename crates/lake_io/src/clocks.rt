@@ -73,8 +73,10 @@ impl<R: SystemTimer + Drop> Model for SystemClock<R> {
 }
 
 impl<R: SystemTimer + Drop> SystemClock<R> {
-    /// The clock of this runtime.
-    pub fn new(timer: R) -> Self {
+    /// The clock of this runtime, which was not read yet.
+    pub fn new(timer: R) -> Self
+        ensures { result ≡ pos 0 }
+    {
         SystemClock { timer, last: 0 }
     }
 }
