@@ -1,8 +1,8 @@
 -- A loop over `Lines::next`: what each answer leaves of `Heard`, the caller's invariant.
-use Rattle.std.proofs.Common.{◌≡◌, ◌≤◌, ◌<◌, ◌+◌, ◌⊎◌, inl, inr, ℕ, Bool, true, false, List, [], ◌∷◌, ◌++◌, length, refl, ap, sym, ◌∙◌, subst, append_assoc, append-nil, length-append, arith}
+use Rattle.std.proofs.Common.{◌≡◌, ◌<◌, ◌+◌, inl, inr, ℕ, Bool, List, [], ◌∷◌, ◌++◌, length, refl, ap, sym, ◌∙◌, subst, append_assoc, append-nil, length-append, arith}
 use Rattle.std.specs.Prelude.{IsTrue}
 use Rattle.text_lines.specs.Lines.{HasNoLf, cut, ended_lines}
-use Rattle.text_lines.proofs.Cutting.{cut-line, cut-last, cut-nil, ended-line, ended-last, ended-nil}
+use Rattle.text_lines.proofs.Cutting.{cut-line, cut-last, cut-nil, ended-line, ended-last}
 use Rattle.lake_io.specs.Told.{Takes, told}
 use Rattle.lake_io.proofs.Telling.{told-nil}
 use Rattle.lake_io.specs.Reading.{At, at_start, Ends, Hands, Heard, InputEnds, LineEnds, Loses, Stops}

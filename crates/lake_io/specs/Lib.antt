@@ -4,4 +4,5 @@ pub mod Calls
 pub mod Fields
 pub mod GivenIds
 pub mod Memory
+pub mod Parts
 pub mod Reading

@@ -1,6 +1,6 @@
 -- What the sources and sinks in memory hold.
-use Rattle.std.specs.Prelude.{ℕ, ◌+◌, ◌-◌, List, [], ◌++◌, length, min, take, drop, if◌then◌else◌}
-use Rattle.lake_io.specs.Calls.{CallCount, called, next_fails}
+use Rattle.std.specs.Prelude.{ℕ, List, length, min}
+use Rattle.lake_io.specs.Calls.{CallCount}
 
 -- the bytes that a source gave, those that are left, and how many it gives at most in one read
 pub record SourceData : Type 0 where

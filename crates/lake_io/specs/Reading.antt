@@ -5,7 +5,7 @@
 --     Next               the bytes that the call took from the source, and its answer
 --     Again              what an ended or stopped reader answers
 --     LineCause          when a fault may be answered
-use Rattle.std.specs.Prelude.{◌≡◌, ◌≤◌, ◌<◌, ◌+◌, ◌⊎◌, ℕ, Bool, true, false, List, [], ◌∷◌, ◌++◌, length, Option, Some, None, Result, Ok, Err, IsTrue, ⊤}
+use Rattle.std.specs.Prelude.{◌≡◌, ◌≤◌, ◌<◌, ◌+◌, ◌⊎◌, ℕ, Bool, List, [], ◌∷◌, ◌++◌, length, Option, Some, None, Result, Ok, Err, IsTrue, ⊤}
 use Rattle.text_lines.specs.Lines.{HasNoLf, cut, ended_lines}
 use Rattle.lake_io.specs.Causes.{Rose}
 use Rattle.lake_io.specs.Told.{Takes}
@@ -94,9 +94,11 @@ Answers tells left' at bytes (Err (error.TooLong n)) at' = HandsLine tells left'
 Answers tells left' at bytes (Err error.TooMuch) at' = Stops at bytes state.Full at' × (at.read + length bytes ≡ input_limit)
 Answers tells left' at bytes (Err error.Memory) at' = Loses at bytes at'
 
+-- bytes were taken only where no LF was pending: a line that was read whole is answered before more is asked for
 pub record Next (tells : Bool) (taken left taken' left' : List ℕ) (at : At) (result : Result (Option Line) LineError) (at' : At) : Type 0 where
   pub bytes : List ℕ
   pub takes : Takes tells taken left bytes taken' left'
+  pub asked : (bytes ≡ []) ⊎ HasNoLf at.pending
   pub answers : Answers tells left' at bytes result at'
 
 -- an answer that is given again and again: neither the reader nor the source changes

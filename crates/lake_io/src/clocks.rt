@@ -1,7 +1,9 @@
 //! Clocks.
-ghost use Rattle.std.specs.Prelude.{◌≡◌, Bool, true, false, ℤ, pos, ◌≤ℤ◌, IsTrue};
+ghost use Rattle.std.specs.Prelude.{◌≡◌, Bool, true, false, ℤ, pos, ◌≤ℤ◌, IsTrue, IfSome};
 
 use std::marker::Model;
+use std::rt::Clock as SystemTimer;
+use std::time::{SystemTime, UNIX_EPOCH};
 
 /// A clock of milliseconds since 1970.
 pub trait Clock {
@@ -51,4 +53,53 @@ impl Clock for FixedClock {
     fn now_ms(&mut self) -> i64 {
         self.now
     }
+}
+
+/// The system's clock. Where it cannot be read, or is set before 1970, the last reading stands, which is 0 before the first.
+#[derive(Drop)]
+pub struct SystemClock<R: SystemTimer + Drop> {
+    timer: R,
+    last: i64,
+}
+
+impl<R: SystemTimer + Drop> Model for SystemClock<R> {
+    ghost use Rattle.std.specs.Prelude.{ℤ, pos, ◌≤ℤ◌};
+
+    ghost Value = { ℤ };
+
+    ghost view = { λ c. c.last };
+
+    ghost invariant = { λ c. pos 0 ≤ℤ c.last };
+}
+
+impl<R: SystemTimer + Drop> SystemClock<R> {
+    /// The clock of this runtime, which was not read yet.
+    pub fn new(timer: R) -> Self
+        ensures { result ≡ pos 0 }
+    {
+        SystemClock { timer, last: 0 }
+    }
+}
+
+impl<R: SystemTimer + Drop> Clock for SystemClock<R> {
+    ghost fixed = { false };
+
+    ghost reading = { λ c. c };
+
+    fn now_ms(&mut self) -> i64 {
+        if let Some(now) = system_ms(&self.timer) {
+            self.last = now;
+            return now;
+        }
+        self.last
+    }
+}
+
+/// The milliseconds since 1970, where they can be read.
+fn system_ms<R: SystemTimer>(timer: &R) -> Option<i64>
+    ensures { IfSome result (λ ms. pos 0 ≤ℤ ms) }
+{
+    let now = SystemTime::now(timer).ok()?;
+    let since = now.duration_since(UNIX_EPOCH).ok()?;
+    i64::try_from(since.as_millis()).ok()
 }

@@ -1,5 +1,6 @@
 //! Sources of bytes.
-ghost use Rattle.std.specs.Prelude.{◌≡◌, ◌<◌, ◌↔◌, ℕ, Bool, true, List, [], length, drop, min, if◌then◌else◌, IsTrue, is_err, OnOk, MatchResult};
+ghost use Rattle.std.specs.Prelude.{◌≡◌, ◌<◌, ◌↔◌, ℕ, Bool, true, false, List, [], length, drop, min, if◌then◌else◌, IsTrue, is_err, OnOk, MatchResult};
+ghost use Rattle.std.specs.Io.{ReadsAtMost};
 ghost use Rattle.lake_io.specs.Calls.{called, next_fails, uncalled};
 ghost use Rattle.lake_io.specs.Causes.{HasCause};
 ghost use Rattle.lake_io.specs.Memory.{SourceData, read_size};
@@ -7,6 +8,8 @@ ghost use Rattle.lake_io.specs.Told.{Reads, Takes};
 
 use crate::answers::ReadFault;
 use crate::calls::Calls;
+use std::io;
+use std::io::{ErrorKind, Read};
 use std::marker::Model;
 
 /// Where bytes come from. It counts its faults, and the count never falls.
@@ -117,4 +120,58 @@ fn least(a: usize, b: usize) -> usize
     ensures { result ≡ min a b }
 {
     if a < b { a } else { b }
+}
+
+/// A source over a reader, as the standard input. It tells nothing of what the reader holds.
+#[derive(Drop)]
+pub struct StdSource<R: Read + Drop> {
+    reader: R,
+    faults: u64,
+}
+
+impl<R: Read + Drop> StdSource<R> {
+    /// A source over this reader, of which no read has failed.
+    pub fn new(reader: R) -> Self
+        ensures { ⟦<StdSource<R> as Source>⟧.faults result ≡ 0 }
+    {
+        StdSource { reader, faults: 0 }
+    }
+}
+
+impl<R: Read + Drop> Source for StdSource<R> {
+    ghost tells = { false };
+
+    ghost faults = { λ s. s.faults };
+
+    ghost taken = { λ _. [] };
+
+    ghost left = { λ _. [] };
+
+    /// Reads once, and again where a signal interrupted the read. Any other error is a fault.
+    fn read(&mut self, into: &mut [u8]) -> Result<usize, ReadFault> {
+        match read_some(&mut self.reader, into) {
+            Ok(n) => Ok(n),
+            Err(_) => {
+                if self.faults < u64::MAX {
+                    self.faults += 1;
+                }
+                Err(ReadFault)
+            }
+        }
+    }
+}
+
+/// How many times in a row a call is made again after a signal interrupted it.
+const TRIES: u32 = 1_000;
+
+fn read_some<R: Read>(reader: &mut R, into: &mut [u8]) -> io::Result<usize>
+    ensures { ReadsAtMost result into.new }
+{
+    for _ in 1..TRIES {
+        match reader.read(into) {
+            Err(e) if e.kind() == ErrorKind::Interrupted => {}
+            answer => return answer,
+        }
+    }
+    reader.read(into)
 }

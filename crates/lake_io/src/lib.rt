@@ -11,8 +11,11 @@ mod output;
 mod reader;
 
 pub use answers::{End, ReadFault, WriteFault};
-pub use clocks::{Clock, FixedClock};
+pub use clocks::{Clock, FixedClock, SystemClock};
 pub use identifiers::{Ids, ListIds};
-pub use input::{MemSource, Source};
-pub use output::{MemSink, Sink, put_all};
+pub use input::{MemSource, Source, StdSource};
+pub use output::{MemSink, Sink, StdSink, put_all};
 pub use reader::{InputState, Line, LineError, Lines, MAX_INPUT, MAX_LINE};
+
+#[cfg(test)]
+mod tests;

@@ -1,5 +1,6 @@
 //! Sinks of bytes.
-ghost use Rattle.std.specs.Prelude.{◌≡◌, ◌<◌, ℕ, Bool, true, List, [], ◌++◌, length, IsTrue, IsErr, OnOk, MatchResult};
+ghost use Rattle.std.specs.Prelude.{◌≡◌, ◌<◌, ℕ, Bool, true, false, List, [], ◌++◌, length, IsTrue, IsErr, OnOk, MatchResult};
+ghost use Rattle.std.specs.Io.{WritesAtMost};
 ghost use Rattle.lake_io.specs.Calls.{called, next_fails, uncalled};
 ghost use Rattle.lake_io.specs.Causes.{HasCause};
 ghost use Rattle.lake_io.specs.Told.{Writes, WritesSome, told};
@@ -7,6 +8,8 @@ ghost use Rattle.lake_io.specs.Told.{Writes, WritesSome, told};
 use crate::answers::WriteFault;
 use crate::calls::Calls;
 use std::alloc::Global;
+use std::io;
+use std::io::{ErrorKind, Write};
 use std::marker::Model;
 
 /// Where bytes go to. It counts its faults, and the count never falls.
@@ -111,4 +114,56 @@ impl Sink for MemSink {
             }
         }
     }
+}
+
+/// A sink over a writer, as the standard output. It tells nothing of what the writer holds. The writer is to keep no buffer of its own.
+#[derive(Drop)]
+pub struct StdSink<W: Write + Drop> {
+    writer: W,
+    faults: u64,
+}
+
+impl<W: Write + Drop> StdSink<W> {
+    /// A sink over this writer, of which no write has failed.
+    pub fn new(writer: W) -> Self
+        ensures { ⟦<StdSink<W> as Sink>⟧.faults result ≡ 0 }
+    {
+        StdSink { writer, faults: 0 }
+    }
+}
+
+impl<W: Write + Drop> Sink for StdSink<W> {
+    ghost tells = { false };
+
+    ghost faults = { λ s. s.faults };
+
+    ghost written = { λ _. [] };
+
+    /// Writes once, and again where a signal interrupted the write. Any other error, and a writer that takes nothing, is a fault.
+    fn write(&mut self, from: &[u8]) -> Result<usize, WriteFault> {
+        match write_some(&mut self.writer, from) {
+            Ok(n) if n > 0 => Ok(n),
+            _ => {
+                if self.faults < u64::MAX {
+                    self.faults += 1;
+                }
+                Err(WriteFault)
+            }
+        }
+    }
+}
+
+/// How many times in a row a call is made again after a signal interrupted it.
+const TRIES: u32 = 1_000;
+
+fn write_some<W: Write>(writer: &mut W, from: &[u8]) -> io::Result<usize>
+    ensures { WritesAtMost result from.now }
+{
+    for _ in 1..TRIES {
+        match writer.write(from) {
+            Err(e) if e.kind() == ErrorKind::Interrupted => {}
+            answer => return answer,
+        }
+    }
+    writer.write(from)
 }
