@@ -1,11 +1,14 @@
 -- A loop over `Lines::next`: what each answer leaves of `Heard`, the caller's invariant.
-use Rattle.std.proofs.Common.{◌≡◌, ◌<◌, ◌+◌, inl, inr, ℕ, Bool, List, [], ◌∷◌, ◌++◌, length, refl, ap, sym, ◌∙◌, subst, append_assoc, append-nil, length-append, arith}
-use Rattle.std.specs.Prelude.{IsTrue}
+use Rattle.std.proofs.Common.{◌≡◌, ◌<◌, ◌+◌, inl, inr, ℕ, Bool, List, [], ◌∷◌, ◌++◌, length, refl, ap, sym, ◌∙◌, subst, append_assoc, append-nil, length-append, arith, ◌≤◌, Option, Some, None, Result, Ok, Err}
 use Rattle.text_lines.specs.Lines.{HasNoLf, cut, ended_lines}
 use Rattle.text_lines.proofs.Cutting.{cut-line, cut-last, cut-nil, ended-line, ended-last}
 use Rattle.lake_io.specs.Told.{Takes, told}
 use Rattle.lake_io.proofs.Telling.{told-nil}
-use Rattle.lake_io.specs.Reading.{At, at_start, Ends, Hands, Heard, InputEnds, LineEnds, Loses, Stops}
+pub use Rattle.lake_io.specs.Reading.{HeardAll, HeardFirst}
+use Rattle.lake_io.specs.Reading.{Answers, At, at_start, Ends, Hands, Heard, HeardAfter, HeardLine, InputEnds, input_limit, line_limit, LineEnds, Loses, Next, Stops}
+use Rattle.lake_io.specs.declared.reader.Line.{Line}
+use Rattle.lake_io.specs.declared.reader.LineError.{LineError}
+use Rattle.lake_io.specs.declared.reader.LineError.TheVariants as error
 use Rattle.lake_io.specs.declared.reader.InputState.{InputState}
 use Rattle.lake_io.specs.declared.reader.InputState.TheVariants as state
 
@@ -82,11 +85,6 @@ heard_line tells left left' bytes new text handed at at' h n =
       | inr e ↦ heard_end tells left left' bytes new text handed at at' h n.no_lf n.open_was e
     ]
 
--- what a caller knows at the end of the input: all lines were handed, and nothing is left
-pub record HeardAll (tells : Bool) (left bytes : List ℕ) (handed : List (List ℕ)) : Type 0 where
-  pub lines : cut bytes ≡ handed
-  pub whole : IsTrue tells → left ≡ []
-
 no_new : (pending new : List ℕ) → pending ++ new ≡ [] → new ≡ []
 no_new [] new e = e
 no_new (b ∷ p) new e = cc
@@ -110,10 +108,6 @@ heard_stopped tells left bytes new handed at at' state' not_open not_ended h s =
     ]
 
 -- whatever comes of what was taken last, the handed lines are the first
-pub record HeardFirst (bytes : List ℕ) (handed : List (List ℕ)) : Type 0 where
-  pub others : List (List ℕ)
-  pub is : cut bytes ≡ handed ++ others
-
 pub heard_lost : (tells : Bool) (left bytes new : List ℕ) (handed : List (List ℕ)) (at at' : At) → Heard tells left bytes handed at → Loses at new at' → HeardFirst (bytes ++ new) handed
 heard_lost tells left bytes new handed at at' h l =
     record { others = cut (at.pending ++ new); is = h.cut_is new (λ z. elim l.was [ inl q ↦ cc | inr q ↦ cc ]) }
@@ -121,3 +115,34 @@ heard_lost tells left bytes new handed at at' h l =
 pub heard_first : (tells : Bool) (left bytes : List ℕ) (handed : List (List ℕ)) (at : At) → Heard tells left bytes handed at → HeardFirst bytes handed
 heard_first tells left bytes handed at h =
     record { others = cut (at.pending ++ []); is = ap cut (sym (append-nil bytes)) ∙ h.cut_is [] (λ _. refl) }
+
+heard_text : (tells : Bool) (left left' bytes new : List ℕ) (handed : List (List ℕ)) (number : ℕ) (text : List ℕ) (at at' : At) → Heard tells left bytes handed at → number ≡ at.number + 1 → Hands tells left' at new text at' → HeardLine tells left' (bytes ++ new) handed number text at'
+heard_text tells left left' bytes new handed number text at at' h e n = record {
+  number_is = e ∙ ap (λ k. k + 1) h.number_is;
+  heard = heard_line tells left left' bytes new text handed at at' h n;
+}
+
+-- after any answer
+heard_answer : (tells : Bool) (taken taken' left left' bytes new : List ℕ) (handed : List (List ℕ)) (at : At) (result : Result (Option Line) LineError) (at' : At) → Heard tells left bytes handed at → Takes tells taken left new taken' left' → Answers tells left' at new result at' → HeardAfter tells left' (bytes ++ new) handed result at'
+heard_answer tells taken taken' left left' bytes new handed at (Ok None) at' h t a =
+    heard_none tells taken taken' left left' bytes new handed at at' h t a
+heard_answer tells taken taken' left left' bytes new handed at (Ok (Some line)) at' h t a =
+    let items : line.text.items ≡ a.text = a.handed.1 in
+    let P : List ℕ → Type 0 = λ xs. HeardLine tells left' (bytes ++ new) handed line.number xs at' × (length xs ≤ line_limit) in
+    subst P (sym items) (heard_text tells left left' bytes new handed line.number a.text at at' h a.handed.0 a.hands, a.handed.2)
+heard_answer tells taken taken' left left' bytes new handed at (Err error.ReadFault) at' h t a =
+    heard_stopped tells left bytes new handed at at' state.Failed (λ e. cc) (λ e. cc) h a.0
+heard_answer tells taken taken' left left' bytes new handed at (Err (error.TooLong n)) at' h t a = record {
+  text = a.text;
+  long = a.handed.1;
+  line = heard_text tells left left' bytes new handed n a.text at at' h a.handed.0 a.hands;
+}
+heard_answer tells taken taken' left left' bytes new handed at (Err error.TooMuch) at' h t a =
+    let count : length (bytes ++ new) ≡ input_limit = omega (arith, length-append bytes new, h.read_is, a.1) in
+    (heard_stopped tells left bytes new handed at at' state.Full (λ e. cc) (λ e. cc) h a.0, count)
+heard_answer tells taken taken' left left' bytes new handed at (Err error.Memory) at' h t a =
+    heard_lost tells left bytes new handed at at' h a
+
+pub heard_next : (tells : Bool) (taken taken' left left' bytes : List ℕ) (handed : List (List ℕ)) (at : At) (result : Result (Option Line) LineError) (at' : At) → Heard tells left bytes handed at → (n : Next tells taken left taken' left' at result at') → HeardAfter tells left' (bytes ++ n.bytes) handed result at'
+heard_next tells taken taken' left left' bytes handed at result at' h n =
+    heard_answer tells taken taken' left left' bytes n.bytes handed at result at' h n.takes n.answers

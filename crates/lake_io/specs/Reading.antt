@@ -136,3 +136,33 @@ pub record Heard (tells : Bool) (left bytes : List ℕ) (handed : List (List ℕ
   pub read_is : at.read ≡ length bytes
   pub whole : at.state ≡ state.Ended → IsTrue tells → left ≡ []
   pub going : (at.state ≡ state.Open) ⊎ (at.state ≡ state.Ended)
+
+-- at the end of the input: all its lines were handed, and nothing is left
+pub record HeardAll (tells : Bool) (left bytes : List ℕ) (handed : List (List ℕ)) : Type 0 where
+  pub lines : cut bytes ≡ handed
+  pub whole : IsTrue tells → left ≡ []
+
+-- the handed lines are the first ones
+pub record HeardFirst (bytes : List ℕ) (handed : List (List ℕ)) : Type 0 where
+  pub others : List (List ℕ)
+  pub is : cut bytes ≡ handed ++ others
+
+-- one line more, of this number
+pub record HeardLine (tells : Bool) (left bytes : List ℕ) (handed : List (List ℕ)) (number : ℕ) (text : List ℕ) (at : At) : Type 0 where
+  pub number_is : number ≡ length handed + 1
+  pub heard : Heard tells left bytes (handed ++ text ∷ []) at
+
+-- one line more, which is too long
+pub record HeardLong (tells : Bool) (left bytes : List ℕ) (handed : List (List ℕ)) (number : ℕ) (at : At) : Type 0 where
+  pub text : List ℕ
+  pub long : line_limit < length text
+  pub line : HeardLine tells left bytes handed number text at
+
+-- What a caller knows after an answer, where these lines were handed before it: `bytes` are all that were taken, those of this call too.
+abbrev pub HeardAfter : Bool → List ℕ → List ℕ → List (List ℕ) → Result (Option Line) LineError → At → Type 0
+HeardAfter tells left bytes handed (Ok None) at = HeardAll tells left bytes handed
+HeardAfter tells left bytes handed (Ok (Some line)) at = HeardLine tells left bytes handed line.number line.text.items at × (length line.text.items ≤ line_limit)
+HeardAfter tells left bytes handed (Err error.ReadFault) at = ended_lines bytes ≡ handed
+HeardAfter tells left bytes handed (Err (error.TooLong number)) at = HeardLong tells left bytes handed number at
+HeardAfter tells left bytes handed (Err error.TooMuch) at = (ended_lines bytes ≡ handed) × (length bytes ≡ input_limit)
+HeardAfter tells left bytes handed (Err error.Memory) at = HeardFirst bytes handed

@@ -7,6 +7,7 @@ mod calls;
 mod clocks;
 mod identifiers;
 mod input;
+mod law;
 mod output;
 mod reader;
 
@@ -14,6 +15,7 @@ pub use answers::{End, ReadFault, WriteFault};
 pub use clocks::{Clock, FixedClock, SystemClock};
 pub use identifiers::{Ids, ListIds};
 pub use input::{MemSource, Source, StdSource};
+pub use law::lines_are_cut_at_lf;
 pub use output::{MemSink, Sink, StdSink, put_all};
 pub use reader::{InputState, Line, LineError, Lines, MAX_INPUT, MAX_LINE};
 
