@@ -1,0 +1,4 @@
+pub mod Kinds
+pub mod Gives
+pub mod Types
+pub mod Bodies
