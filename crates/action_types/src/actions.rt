@@ -5,7 +5,7 @@ use crate::text::Name;
 use std::alloc::AllocError;
 
 /// An action of a commit (Delta protocol, "Actions"), of the kinds that are read.
-#[derive(Drop)]
+#[derive(PartialEq, Eq, Debug, Drop)]
 pub enum Action {
     Info(Info),
     Protocol(Protocol),
@@ -16,7 +16,7 @@ pub enum Action {
 }
 
 /// Where a commit came from (Delta protocol, "Commit Provenance Information" and "In-Commit Timestamps").
-#[derive(Drop)]
+#[derive(PartialEq, Eq, Debug, Drop)]
 pub struct Info {
     /// The in-commit timestamp, in milliseconds since 1970 UTC, from 0.
     pub time: i64,
@@ -25,7 +25,7 @@ pub struct Info {
 }
 
 /// What a reader and a writer of the table must know (Delta protocol, "Protocol Evolution").
-#[derive(Drop)]
+#[derive(PartialEq, Eq, Debug, Drop)]
 pub struct Protocol {
     /// The least version of a reader.
     pub reader: i64,
@@ -38,14 +38,14 @@ pub struct Protocol {
 }
 
 /// The encoding of the data files (Delta protocol, "Format Specification").
-#[derive(Drop)]
+#[derive(PartialEq, Eq, Debug, Drop)]
 pub struct Format {
     pub provider: Name,
     pub options: Pairs,
 }
 
 /// The metadata of the table (Delta protocol, "Change Metadata").
-#[derive(Drop)]
+#[derive(PartialEq, Eq, Debug, Drop)]
 pub struct Meta {
     /// The table properties: each has a text.
     pub configuration: Pairs,
@@ -63,7 +63,7 @@ pub struct Meta {
 }
 
 /// The progress of an application (Delta protocol, "Transaction Identifiers").
-#[derive(Drop)]
+#[derive(PartialEq, Eq, Debug, Drop)]
 pub struct Txn {
     pub app: Name,
     /// When it was written, in milliseconds since 1970 UTC.
@@ -73,7 +73,7 @@ pub struct Txn {
 }
 
 /// A data file that leaves the table (Delta protocol, "Add File and Remove File").
-#[derive(Drop)]
+#[derive(PartialEq, Eq, Debug, Drop)]
 pub struct Remove {
     /// Whether the commit changes the rows of the table by it.
     pub change: bool,
@@ -89,7 +89,7 @@ pub struct Remove {
 }
 
 /// A data file of the table (Delta protocol, "Add File and Remove File").
-#[derive(Drop)]
+#[derive(PartialEq, Eq, Debug, Drop)]
 pub struct Add {
     /// Whether the commit changes the rows of the table by it.
     pub change: bool,

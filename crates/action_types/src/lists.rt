@@ -1,7 +1,17 @@
 ghost use Rattle.std.specs.Prelude.{◌≡◌, ℕ, List, [], ◌∷◌, ◌++◌, IfOk, OnOk, OnErr, length};
+ghost use Rattle.std.specs.Prelude.{bytes_eq};
+ghost use Rattle.std.specs.Ordering.{on, eq_of_both};
+ghost use Rattle.std.specs.Cmp.{partial_equiv_from_equiv};
+ghost use Rattle.std.specs.Cmp.Lexicographic.{options_equiv};
+ghost use Rattle.std.proofs.lemmas.Cmp.{lists_equiv, and_equiv, on_equiv, nat_list_eq_equiv};
+ghost use Rattle.std.specs.Cmp.Lexicographic.{pointwise};
+ghost use Rattle.std.specs.Option.{option_eq};
+ghost use Rattle.std.proofs.Common.{rules};
+ghost use Rattle.std.specs.Cmp.Rules.{comparing};
 
 use crate::text::Name;
 use std::alloc::{AllocError, Global};
+use std::fmt;
 use std::marker::Model;
 
 /// A list of texts, as the features of a protocol or the partition columns of a table.
@@ -116,5 +126,45 @@ pub(crate) fn copy_option(name: &Option<Name>) -> Result<Option<Name>, AllocErro
     match name {
         None => Ok(None),
         Some(name) => Ok(Some(name.copy()?)),
+    }
+}
+
+impl PartialEq for Names {
+    ghost eq = { pointwise bytes_eq };
+
+    ghost laws = { Prim.search (comparing, rules) };
+
+    fn eq(&self, other: &Names) -> bool {
+        self.items == other.items
+    }
+}
+
+impl Eq for Names {
+    ghost laws = { Prim.search (comparing, rules) };
+}
+
+impl fmt::Debug for Names {
+    fn fmt<W: fmt::Write>(&self, f: &mut fmt::Formatter<W>) -> fmt::Result {
+        write!(f, "{:?}", self.items)
+    }
+}
+
+impl PartialEq for Pairs {
+    ghost eq = { pointwise (eq_of_both (on (λ p. p.0) bytes_eq) (on (λ p. p.1) (option_eq bytes_eq))) };
+
+    ghost laws = { partial_equiv_from_equiv (lists_equiv (and_equiv (on_equiv (λ p. p.0) nat_list_eq_equiv) (on_equiv (λ p. p.1) (options_equiv nat_list_eq_equiv)))) };
+
+    fn eq(&self, other: &Pairs) -> bool {
+        self.items == other.items
+    }
+}
+
+impl Eq for Pairs {
+    ghost laws = { lists_equiv (and_equiv (on_equiv (λ p. p.0) nat_list_eq_equiv) (on_equiv (λ p. p.1) (options_equiv nat_list_eq_equiv))) };
+}
+
+impl fmt::Debug for Pairs {
+    fn fmt<W: fmt::Write>(&self, f: &mut fmt::Formatter<W>) -> fmt::Result {
+        write!(f, "{:?}", self.items)
     }
 }
