@@ -1,5 +1,8 @@
 ghost use Rattle.std.specs.Prelude.{◌≡◌};
+ghost use Rattle.action_fields.specs.Canonical.{kind_of};
 ghost use Rattle.action_fields.specs.Kinds.{is_action, kind_name, kind_named};
+
+use action_types::Action;
 
 /// The kind of a line of a commit or of a checkpoint (Delta protocol, "Actions").
 #[derive(Clone, Copy, Debug, PartialEq, Eq)]
@@ -54,5 +57,19 @@ impl Kind {
         ensures { result ≡ is_action self }
     {
         !matches!(self, Kind::CheckpointMetadata | Kind::Sidecar)
+    }
+}
+
+/// The kind of an action's line.
+pub fn kind_of(action: &Action) -> Kind
+    ensures { result ≡ kind_of action.now }
+{
+    match action {
+        Action::Info(_) => Kind::Info,
+        Action::Protocol(_) => Kind::Protocol,
+        Action::Meta(_) => Kind::Meta,
+        Action::Txn(_) => Kind::Txn,
+        Action::Remove(_) => Kind::Remove,
+        Action::Add(_) => Kind::Add,
     }
 }

@@ -5,9 +5,14 @@
 mod fault;
 mod field;
 mod kind;
+mod put;
 mod read;
 mod types;
+mod valid;
+mod write;
 
 pub use fault::BadBody;
-pub use kind::Kind;
+pub use kind::{Kind, kind_of};
 pub use read::read_body;
+pub use valid::has_valid_fields;
+pub use write::{push_body, push_line};
