@@ -7,7 +7,9 @@ use Rattle.action_types.specs.declared.actions.Action.{Action}
 use Rattle.action_types.specs.declared.actions.Action.TheVariants as action
 use Rattle.action_fields.specs.Canonical.{kind_of, canonical_line}
 use Rattle.action_fields.specs.Valid.{has_valid_fields}
-use Rattle.action_json.specs.Lines.{Line, blank, unread, says, line_of}
+use Rattle.action_json.specs.Lines.{line_of}
+use Rattle.action_json.specs.declared.line.Line.{Line}
+use Rattle.action_json.specs.declared.line.Line.TheVariants.{Blank, Unread, Says}
 use Rattle.action_json.specs.declared.fault.BadCommit.{BadCommit}
 use Rattle.action_json.specs.declared.fault.BadCommit.TheVariants as bad
 use Rattle.action_json.specs.declared.fault.BadLine.{BadLine}
@@ -95,9 +97,9 @@ unless_double n a (Some key) rest = Err (n, why.Double (kind_of a) key)
 
 -- line n after the actions `done`
 abbrev pub after_line : ℕ → List Action → (List Action → Result (List Action) Flaw) → Result Line Why → Result (List Action) Flaw
-after_line n done rest (Ok blank) = rest done
-after_line n done rest (Ok unread) = rest done
-after_line n done rest (Ok (says a)) = unless_double n a (double_of done a) (rest (done ++ a ∷ []))
+after_line n done rest (Ok Blank) = rest done
+after_line n done rest (Ok Unread) = rest done
+after_line n done rest (Ok (Says a)) = unless_double n a (double_of done a) (rest (done ++ a ∷ []))
 after_line n done rest (Err w) = Err (n, w)
 
 -- lines from number n on, after the actions `done`; a line before which no action stands is the first that is not blank

@@ -4,26 +4,32 @@ use Rattle.std.specs.List.{list_all}
 use Rattle.text_lines.specs.Lines.{cut, is_blank}
 use Rattle.action_types.specs.declared.actions.Action.{Action}
 use Rattle.action_fields.specs.Canonical.{kind_of}
-use Rattle.action_json.specs.Lines.{Line, blank, unread, says, line_of}
+use Rattle.action_json.specs.Lines.{line_of}
+use Rattle.action_json.specs.declared.line.Line.{Line}
+use Rattle.action_json.specs.declared.line.Line.TheVariants.{Blank, Unread, Says}
 use Rattle.action_json.specs.Commit.{double_of}
 use Rattle.action_json.specs.declared.fault.Why.{Why}
 use Rattle.action_json.specs.declared.fault.Why.TheVariants as why
 use Rattle.std.specs.Prelude.{false}
 
 abbrev pub said : Result Line Why → List Action
-said (Ok blank) = []
-said (Ok unread) = []
-said (Ok (says a)) = a ∷ []
+said (Ok Blank) = []
+said (Ok Unread) = []
+said (Ok (Says a)) = a ∷ []
 said (Err w) = []
 
 -- the actions of lines that have no flaw
 abbrev pub actions_in : List (List ℕ) → List Action
 actions_in lines = flat_map (λ l. said (line_of false l)) lines
 
+-- the actions that the lines of the bytes say
+abbrev pub actions_of : List ℕ → List Action
+actions_of bytes = actions_in (cut bytes)
+
 abbrev pub flaw_in : List Action → Result Line Why → Option Why
-flaw_in before (Ok blank) = None
-flaw_in before (Ok unread) = None
-flaw_in before (Ok (says a)) = option_map (λ key. why.Double (kind_of a) key) (double_of before a)
+flaw_in before (Ok Blank) = None
+flaw_in before (Ok Unread) = None
+flaw_in before (Ok (Says a)) = option_map (λ key. why.Double (kind_of a) key) (double_of before a)
 flaw_in before (Err w) = Some w
 
 -- what is wrong with a line after the lines before it, which have no flaw
@@ -38,7 +44,7 @@ Faultless before (l ∷ ls) = (flaw_after before l ≡ None) × Faultless (befor
 -- the bytes are a commit text of these actions
 pub record IsCommitText (bytes : List ℕ) (actions : List Action) : Type 0 where
   pub faultless : Faultless [] (cut bytes)
-  pub all : actions ≡ actions_in (cut bytes)
+  pub all : actions ≡ actions_of bytes
 
 -- line n, from 1, is the first that has a flaw, and w is its first flaw
 pub record IsFirstFlaw (bytes : List ℕ) (n : ℕ) (w : Why) : Type 0 where
