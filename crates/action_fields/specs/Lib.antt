@@ -6,3 +6,4 @@ pub mod Canonical
 pub mod Valid
 pub mod Tokens
 pub mod Fits
+pub mod Ordered

@@ -5,6 +5,7 @@
 mod fault;
 mod field;
 mod kind;
+pub mod laws;
 mod put;
 mod read;
 mod types;

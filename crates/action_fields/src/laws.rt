@@ -1,0 +1,19 @@
+//! Laws on bodies and lines: facts about the definitions, with no code.
+ghost use Rattle.std.specs.Prelude.{◌≡◌, ℕ, IfSome, List, Ok, true};
+ghost use Rattle.serde_json.specs.Read.{read};
+ghost use Rattle.action_types.specs.declared.actions.Action.{Action};
+ghost use Rattle.action_fields.specs.Bodies.{body_of};
+ghost use Rattle.action_fields.specs.Canonical.{body_data, kind_of};
+ghost use Rattle.action_fields.specs.Fits.{HasFittingFields};
+ghost use Rattle.action_fields.specs.Valid.{has_valid_fields};
+ghost use Rattle.action_fields.specs.Ordered.{is_ordered};
+
+/// A value that was read has the names of each of its objects in byte order, each once.
+pub fn values_that_are_read_are_ordered()
+    ensures { (text : List ℕ) → IfSome (read text) (λ d. is_ordered d ≡ true) }
+{}
+
+/// The canonical body of an action with valid fields is read as that action.
+pub fn canonical_bodies_are_read()
+    ensures { (a : Action) → has_valid_fields a ≡ true → HasFittingFields a → body_of (kind_of a) (body_data true a) ≡ Ok a }
+{}
