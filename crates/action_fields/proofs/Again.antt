@@ -21,6 +21,9 @@ use Rattle.serde_json.proofs.Texts.{print-outline}
 use Rattle.action_fields.specs.Canonical.{integer_data}
 use Rattle.action_fields.specs.Fits.{Fits}
 use Rattle.action_fields.specs.Ordered.{names_of, is_below, are_rising}
+use Rattle.std.proofs.lemmas.List.Elements.{All-cons}
+use Rattle.std.specs.Prelude.{decimal, ◌≢◌}
+use Rattle.action_fields.proofs.OneLine.{IsOneLine, one_line-decimal}
 use Rattle.action_fields.proofs.Rising.{greater}
 
 -- its numbers are read as they are written, and its names are in order
@@ -28,7 +31,7 @@ abbrev mutual
   pub IsSound : Data → Type 0
   IsSound null = ⊤
   IsSound (boolean b) = ⊤
-  IsSound (number n) = IsNumber (number_text n) × (number_of (number_text n) ≡ Some n)
+  IsSound (number n) = IsNumber (number_text n) × (number_of (number_text n) ≡ Some n) × IsOneLine (number_text n)
   IsSound (string s) = ⊤
   IsSound (array ds) = ItemsAreSound ds
   IsSound (object ms) = (are_rising (names_of ms) ≡ true) × MembersAreSound ms
@@ -42,8 +45,9 @@ abbrev mutual
   MembersAreSound (member k d ms) = IsSound d × MembersAreSound ms
 
 pub IsSound-integer : (z : ℤ) → Fits z → IsSound (integer_data z)
-IsSound-integer (pos n) h = (IsNumber-decimal n (omega arith), number_of-decimal n (omega arith))
-IsSound-integer (negsuc n) h = (IsNumber-signed_decimal (negsuc n) (omega arith), number_of-negative n (omega arith))
+IsSound-integer (pos n) h = (IsNumber-decimal n (omega arith), number_of-decimal n (omega arith), one_line-decimal n (omega arith))
+IsSound-integer (negsuc n) h =
+    (IsNumber-signed_decimal (negsuc n) (omega arith), number_of-negative n (omega arith), All-cons (λ b. b ≢ 10) 45 (decimal (suc n)) (λ e. absurd (omega arith)) (one_line-decimal (suc n) (omega arith)))
 
 -- ---- members that go in one after another
 

@@ -5,3 +5,5 @@ pub mod Reading
 pub mod Again
 pub mod Found
 pub mod Bodies
+pub mod OneLine
+pub mod Lines
