@@ -7,3 +7,4 @@ pub mod Found
 pub mod Bodies
 pub mod OneLine
 pub mod Lines
+pub mod Accepted

@@ -1,6 +1,8 @@
 //! Laws on bodies and lines: facts about the definitions, with no code.
-ghost use Rattle.std.specs.Prelude.{◌≡◌, ◌≢◌, ℕ, All, IfSome, List, Ok, Some, true};
+ghost use Rattle.std.specs.Prelude.{◌≡◌, ◌≢◌, ℕ, All, IfOk, IfSome, List, Ok, Some, true};
+ghost use Rattle.serde_json.specs.Data.{Data};
 ghost use Rattle.serde_json.specs.Read.{read};
+ghost use Rattle.action_fields.specs.declared.kind.Kind.{Kind};
 ghost use Rattle.action_types.specs.declared.actions.Action.{Action};
 ghost use Rattle.action_fields.specs.Bodies.{body_of};
 ghost use Rattle.action_fields.specs.Canonical.{action_data, body_data, canonical_line, kind_of};
@@ -26,4 +28,9 @@ pub fn canonical_lines_are_read()
 /// The canonical line of an action with valid fields has no LF.
 pub fn canonical_lines_are_lines()
     ensures { (a : Action) → has_valid_fields a ≡ true → HasFittingFields a → All (λ b. b ≢ 10) (canonical_line a) }
+{}
+
+/// An action that is read of a body in order has valid fields.
+pub fn actions_that_are_read_have_valid_fields()
+    ensures { (kind : Kind) (body : Data) → is_ordered body ≡ true → IfOk (body_of kind body) (λ a. has_valid_fields a ≡ true) }
 {}
