@@ -1,2 +1,4 @@
 pub mod Members
 pub mod Cuts
+pub mod Said
+pub mod Sound
