@@ -4,3 +4,4 @@ pub mod Said
 pub mod Sound
 pub mod Commits
 pub mod Again
+pub mod Answered
