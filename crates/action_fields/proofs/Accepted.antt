@@ -1,5 +1,5 @@
 -- An action that was read has valid fields.
-use Rattle.std.proofs.Common.{◌≡◌, ℕ, ℤ, pos, int_lt, List, [], ◌∷◌, Bool, true, false, not, ◌&&◌, codes, map, Option, Some, None, is_some, option_map, option_and_then, unwrap_or, IfSome, Result, Ok, Err, IfOk, if◌then◌else◌, Ordering, Less, Equal, Greater, nat_cmp, refl, sym, ap, ◌∙◌, subst}
+use Rattle.std.proofs.Common.{◌≡◌, ℕ, ℤ, pos, int_lt, List, [], ◌∷◌, Bool, true, false, not, ◌&&◌, codes, map, Option, Some, None, is_some, option_map, option_and_then, unwrap_or, IfSome, Result, Ok, Err, IfOk, if◌then◌else◌, Ordering, Less, Equal, Greater, nat_cmp, refl, ap, ◌∙◌}
 use Rattle.std.specs.Prelude.{⊤}
 use Rattle.std.proofs.lemmas.Bool.{and_parts, and_from}
 use Rattle.std.specs.Cmp.Lexicographic.{slice_cmp}
@@ -18,7 +18,7 @@ use Rattle.action_fields.specs.Canonical.{kind_of}
 use Rattle.action_fields.specs.Gives.{◌>>=◌}
 use Rattle.action_fields.specs.Ordered.{names_of, is_below, are_rising, is_ordered, members_are_ordered}
 use Rattle.action_fields.specs.Types.{Pair, unless_null, given, text, integer, if_from_zero, from_zero, flag, path, if_not_empty, names, value_in, pairs_in, pairs, options, format}
-use Rattle.action_fields.specs.Valid.{is_from_zero, is_not_empty, are_in_order, are_texts, is_valid_meta, is_valid_remove, is_valid_add, has_valid_fields}
+use Rattle.action_fields.specs.Valid.{is_from_zero, is_not_empty, are_in_order, are_texts, has_valid_fields}
 
 -- ---- what a result holds
 
@@ -163,8 +163,8 @@ pairs_in_gives nulls no_members = record { same = refl; texts = λ e. refl }
 pairs_in_gives nulls (member k d ms) =
     Has-and_then (λ v. nulls ≡ false → is_some v ≡ true) (Read nulls (member k d ms)) (λ v. option_map (λ rest. (k, v) ∷ rest) (pairs_in nulls ms))
     (λ v t. Has-map (Read nulls ms) (Read nulls (member k d ms)) (λ rest. (k, v) ∷ rest)
-      (λ rest r. record { same = ap (λ ns. k ∷ ns) r.same; texts = λ e. and_from (is_some v) (list_all (λ (p : Pair). is_some p.1) rest) (t e) (r.texts e) })
-      (pairs_in nulls ms) (pairs_in_gives nulls ms))
+    (λ rest r. record { same = ap (λ ns. k ∷ ns) r.same; texts = λ e. and_from (is_some v) (list_all (λ (p : Pair). is_some p.1) rest) (t e) (r.texts e) })
+    (pairs_in nulls ms) (pairs_in_gives nulls ms))
     (value_in nulls d) (value_at nulls (is_some (as_null d)) (as_str d))
 
 in_order-rising : (ps : List Pair) → are_rising (map (λ (p : Pair). p.0) ps) ≡ true → are_in_order ps ≡ true

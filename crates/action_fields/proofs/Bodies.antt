@@ -1,9 +1,9 @@
 -- The canonical body of an action with valid fields is read as that action: a line for each field.
-use Rattle.std.proofs.Common.{◌≡◌, ℕ, ℤ, List, Bool, true, ◌&&◌, codes, Option, Some, None, is_some, option_map, IfSome, Result, Ok, refl, ap, ◌∙◌}
+use Rattle.std.proofs.Common.{◌≡◌, ℕ, ℤ, List, Bool, true, ◌&&◌, codes, Option, Some, None, is_some, option_map, IfSome, Ok, refl}
 use Rattle.std.proofs.lemmas.Bool.{and_parts}
 use Rattle.std.specs.List.{list_all}
 use Rattle.std.specs.Option.{option_map_or}
-use Rattle.serde_json.specs.Data.{Data, boolean, string, object}
+use Rattle.serde_json.specs.Data.{boolean, string, object}
 use Rattle.action_types.specs.declared.actions.Action.{Action}
 use Rattle.action_types.specs.declared.actions.Action.TheVariants as action
 use Rattle.action_types.specs.declared.actions.Info.{Info}
@@ -59,7 +59,7 @@ info-again w fits zero =
     let fs = info_fields w in
     rw (
       required_found from_zero (codes "inCommitTimestamp") fs (integer_data w.time) w.time refl refl (from_zero-again w.time fits zero),
-      optional_found text (codes "txnId") fs (option_map string w.txn_id) w.txn_id refl (given_text (codes "txnId") w.txn_id)
+      optional_found text (codes "txnId") fs (option_map string w.txn_id) w.txn_id refl (given_text (codes "txnId") w.txn_id),
     ) refl
 
 protocol-again : (w : Protocol) → Fits w.reader → Fits w.writer → protocol (object (with_fields (protocol_fields w))) ≡ Ok (action.Protocol w)
@@ -70,7 +70,7 @@ protocol-again w reader writer =
       required_found integer (codes "minReaderVersion") fs (integer_data w.reader) w.reader refl refl (integer-again w.reader reader),
       required_found integer (codes "minWriterVersion") fs (integer_data w.writer) w.writer refl refl (integer-again w.writer writer),
       optional_found names (codes "readerFeatures") fs (option_map names_data w.reader_features) w.reader_features refl (given_names (codes "readerFeatures") w.reader_features),
-      optional_found names (codes "writerFeatures") fs (option_map names_data w.writer_features) w.writer_features refl (given_names (codes "writerFeatures") w.writer_features)
+      optional_found names (codes "writerFeatures") fs (option_map names_data w.writer_features) w.writer_features refl (given_names (codes "writerFeatures") w.writer_features),
     ) refl
 
 meta-again : (w : Meta) → FitsIfGiven w.created → is_valid_meta w ≡ true → meta (object (with_fields (meta_fields w))) ≡ Ok (action.Meta w)
@@ -88,7 +88,7 @@ meta-again w created valid =
       required_found text (codes "id") fs (string w.id) w.id refl refl refl,
       optional_found text (codes "name") fs (option_map string w.name) w.name refl (given_text (codes "name") w.name),
       required_found names (codes "partitionColumns") fs (names_data w.columns) w.columns refl refl (names-again w.columns),
-      required_found text (codes "schemaString") fs (string w.schema) w.schema refl refl refl
+      required_found text (codes "schemaString") fs (string w.schema) w.schema refl refl refl,
     ) refl
 
 txn-again : (w : Txn) → FitsIfGiven w.updated → Fits w.number → txn (object (with_fields (txn_fields w))) ≡ Ok (action.Txn w)
@@ -98,7 +98,7 @@ txn-again w updated number =
     rw (
       required_found text (codes "appId") fs (string w.app) w.app refl refl refl,
       optional_found integer (codes "lastUpdated") fs (option_map integer_data w.updated) w.updated refl (given_integer (codes "lastUpdated") w.updated updated),
-      required_found integer (codes "version") fs (integer_data w.number) w.number refl refl (integer-again w.number number)
+      required_found integer (codes "version") fs (integer_data w.number) w.number refl refl (integer-again w.number number),
     ) refl
 
 remove-again : (w : Remove) → FitsIfGiven w.deleted → FitsIfGiven w.size → is_valid_remove w ≡ true → remove (object (with_fields (remove_fields true w))) ≡ Ok (action.Remove w)
@@ -113,7 +113,7 @@ remove-again w deleted size valid =
       optional_found flag (codes "extendedFileMetadata") fs (option_map boolean w.extended) w.extended refl (given_flag (codes "extendedFileMetadata") w.extended),
       optional_found (pairs true) (codes "partitionValues") fs (option_map pairs_data w.values) w.values refl (given_pairs (codes "partitionValues") w.values),
       required_found path (codes "path") fs (string w.path) w.path refl refl (path-again w.path file),
-      optional_found from_zero (codes "size") fs (option_map integer_data w.size) w.size refl (given_from_zero (codes "size") w.size size front.1)
+      optional_found from_zero (codes "size") fs (option_map integer_data w.size) w.size refl (given_from_zero (codes "size") w.size size front.1),
     ) refl
 
 add-again : (w : Add) → Fits w.modified → Fits w.size → is_valid_add w ≡ true → add (object (with_fields (add_fields true w))) ≡ Ok (action.Add w)
@@ -130,7 +130,7 @@ add-again w modified size valid =
       required_found path (codes "path") fs (string w.path) w.path refl refl (path-again w.path file),
       required_found from_zero (codes "size") fs (integer_data w.size) w.size refl refl (from_zero-again w.size size middle.1),
       optional_found text (codes "stats") fs (option_map string w.stats) w.stats refl (given_text (codes "stats") w.stats),
-      optional_found (pairs true) (codes "tags") fs (option_map pairs_data w.tags) w.tags refl (given_pairs (codes "tags") w.tags)
+      optional_found (pairs true) (codes "tags") fs (option_map pairs_data w.tags) w.tags refl (given_pairs (codes "tags") w.tags),
     ) refl
 
 pub body_of-body_data : (a : Action) → has_valid_fields a ≡ true → HasFittingFields a → body_of (kind_of a) (body_data true a) ≡ Ok a

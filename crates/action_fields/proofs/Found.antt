@@ -1,16 +1,16 @@
 -- A field of a canonical body is found under its name.
-use Rattle.std.proofs.Common.{◌≡◌, ℕ, ℤ, pos, negsuc, ◌^◌, ◌<◌, ◌≤◌, List, [], ◌∷◌, Bool, true, false, not, nat_lt, int_lt, ◌&&◌, Option, Some, None, is_some, option_map, option_and_then, IfSome, Result, Ok, Err, Ordering, Less, Equal, Greater, nat_cmp, refl, sym, ap, ◌∙◌, arith, lt-ltb}
-use Rattle.std.proofs.lemmas.Bool.{and_parts, and_from}
+use Rattle.std.proofs.Common.{◌≡◌, ℕ, ℤ, pos, negsuc, ◌^◌, ◌<◌, List, [], ◌∷◌, Bool, true, false, not, int_lt, Option, Some, None, is_some, option_map, option_and_then, IfSome, Ok, Ordering, Less, Equal, Greater, nat_cmp, refl, sym, ap, ◌∙◌, arith, lt-ltb}
+use Rattle.std.proofs.lemmas.Bool.{and_parts}
 use Rattle.std.specs.Cmp.Lexicographic.{slice_cmp}
 use Rattle.std.specs.List.{list_all}
 use Rattle.std.specs.Ordering.{match_ordering}
-use Rattle.serde_json.specs.Data.{Data, string, object, Members, member}
+use Rattle.serde_json.specs.Data.{Data, string, object, Members}
 use Rattle.serde_json.specs.Find.{get_member, as_null}
 use Rattle.action_types.specs.declared.actions.Format.{Format}
 use Rattle.action_fields.specs.Bodies.{required, optional, or_empty, if_given}
-use Rattle.action_fields.specs.Canonical.{Fields, with_field, with_fields, integer_data, texts_items, names_data, value_data, pairs_members, pairs_data, format_fields, format_data}
+use Rattle.action_fields.specs.Canonical.{Fields, with_field, with_fields, integer_data, texts_items, names_data, value_data, pairs_members, pairs_data, format_data}
 use Rattle.action_fields.specs.Fits.{Fits}
-use Rattle.action_fields.specs.Types.{Pair, unless_null, given, text, integer, if_from_zero, from_zero, texts_in, names, value_in, pairs_in, pairs, options, format, if_not_empty, path}
+use Rattle.action_fields.specs.Types.{Pair, unless_null, given, integer, if_from_zero, from_zero, texts_in, names, value_in, pairs_in, pairs, format, path}
 use Rattle.action_fields.specs.Valid.{is_from_zero, is_not_empty}
 
 -- ---- look-ups

@@ -1,5 +1,5 @@
 -- The canonical line of an action with valid fields is one line, and is read as the action's data.
-use Rattle.std.proofs.Common.{◌≡◌, ◌≢◌, ℕ, ℤ, suc, ◌+◌, ◌≤◌, max, List, [], ◌∷◌, ◌++◌, Bool, true, false, ◌&&◌, codes, map, Option, Some, None, is_some, option_map, IfSome, All, refl, ap, ◌∙◌, arith}
+use Rattle.std.proofs.Common.{◌≡◌, ◌≢◌, ℕ, ℤ, ◌+◌, ◌≤◌, List, [], ◌∷◌, ◌++◌, Bool, true, false, ◌&&◌, map, Option, Some, None, is_some, option_map, IfSome, refl, arith}
 use Rattle.std.specs.Prelude.{⊤}
 use Rattle.std.proofs.lemmas.Bool.{and_parts, and_from}
 use Rattle.std.proofs.lemmas.List.Elements.{All-nil, All-cons, All-append}
@@ -7,17 +7,16 @@ use Rattle.std.specs.List.{list_all}
 use Rattle.std.specs.Option.{option_map_or}
 use Rattle.json.specs.Print.{quoted}
 use Rattle.serde_json.specs.Data.{Data, null, boolean, number, string, array, object, Items, no_items, item, Members, no_members, member, depth, items_depth, members_depth}
-use Rattle.serde_json.specs.Read.{max_depth, read}
+use Rattle.serde_json.specs.Read.{read}
 use Rattle.serde_json.specs.Written.{comma_if, compact_text, items_text, members_text}
 use Rattle.action_types.specs.declared.actions.Action.{Action}
 use Rattle.action_types.specs.declared.actions.Action.TheVariants as action
 use Rattle.action_types.specs.declared.actions.Format.{Format}
-use Rattle.action_fields.specs.Canonical.{Fields, with_field, with_fields, integer_data, texts_items, names_data, value_data, pairs_members, pairs_data, format_fields, format_data, body_data, action_fields, action_data, canonical_line, kind_of}
+use Rattle.action_fields.specs.Canonical.{Fields, with_field, with_fields, integer_data, texts_items, names_data, value_data, pairs_members, pairs_data, format_fields, format_data, body_data, action_fields, action_data, canonical_line}
 use Rattle.action_fields.specs.Fits.{Fits, FitsIfGiven, HasFittingFields}
-use Rattle.action_fields.specs.Kinds.{kind_name}
 use Rattle.action_fields.specs.Ordered.{names_of, is_below, are_rising}
 use Rattle.action_fields.specs.Types.{Pair}
-use Rattle.action_fields.specs.Valid.{is_from_zero, is_not_empty, are_in_order, are_texts, is_valid_meta, is_valid_remove, is_valid_add, has_valid_fields}
+use Rattle.action_fields.specs.Valid.{is_from_zero, is_not_empty, are_in_order, are_texts, has_valid_fields}
 use Rattle.action_fields.proofs.Again.{IsSound, ItemsAreSound, MembersAreSound, IsSound-integer, read-compact_text}
 use Rattle.action_fields.proofs.OneLine.{IsOneLine, one_line-literal, one_line-quoted}
 use Rattle.action_fields.proofs.Rising.{below_all}

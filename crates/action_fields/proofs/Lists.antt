@@ -1,6 +1,5 @@
 -- Lists that are read value by value: what was found stands before what is still to be read.
 use Rattle.std.proofs.Common.{◌≡◌, ℕ, ◌+◌, ◌<◌, List, [], ◌∷◌, ◌++◌, length, get_or, drop, Bool, Option, Some, None, option_map, option_and_then, refl, sym, ap, ◌∙◌, append_assoc, drop-cons, add-one, string_bytes, suc}
-use Rattle.serde_json.specs.Data.{Data, Members, member}
 use Rattle.serde_json.specs.Find.{as_str}
 use Rattle.serde_json.specs.View.{view, items_view, members_view}
 use Rattle.serde_json.specs.declared.value.Value.{Value}

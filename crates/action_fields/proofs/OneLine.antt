@@ -1,5 +1,5 @@
 -- What has no LF: digits, and a string with its escapes.
-use Rattle.std.proofs.Common.{◌≡◌, ◌≢◌, ℕ, suc, ◌+◌, ◌/◌, ◌%◌, ◌^◌, ◌<◌, ◌≤◌, ◌==◌, List, [], ◌∷◌, ◌++◌, length, get_or, Bool, true, false, cond, not, ◌||◌, nat_lt, flat_map, All, decimal, refl, sym, ap, ◌∙◌, subst, arith, ltb-true}
+use Rattle.std.proofs.Common.{◌≡◌, ◌≢◌, ℕ, ◌/◌, ◌%◌, ◌^◌, ◌<◌, ◌==◌, List, [], ◌∷◌, ◌++◌, Bool, true, false, cond, not, nat_lt, All, decimal, refl, arith, ltb-true}
 use Rattle.std.specs.Char.{digit_char}
 use Rattle.std.proofs.lemmas.Bool.Decides.{nat_tests as tests}
 use Rattle.std.proofs.lemmas.Bool.{and_parts}
@@ -49,12 +49,12 @@ one_line-escape_byte : (x : ℕ) → IsOneLine (escape_byte x)
 unfolding escape_byte
 one_line-escape_byte x =
     either (nat_lt 0 (escape_letter x)) (92 ∷ escape_letter x ∷ []) _ (λ e. two 92 (escape_letter x) (λ z. absurd (omega arith)) (letter_not x)) (λ none.
-      either (nat_lt x 32) _ (x ∷ [])
-      (λ small.
-        let P : ℕ → Type 0 = λ b. b ≢ 10 in
-        let digits = digit_char (x / 16) ∷ digit_char (x % 16) ∷ [] in
-        All-cons P 92 (117 ∷ 48 ∷ 48 ∷ digits) (λ z. absurd (omega arith)) (All-cons P 117 (48 ∷ 48 ∷ digits) (λ z. absurd (omega arith)) (All-cons P 48 (48 ∷ digits) (λ z. absurd (omega arith)) (All-cons P 48 digits (λ z. absurd (omega arith)) (two (digit_char (x / 16)) (digit_char (x % 16)) (high_not x (ltb-true x 32 small)) (low_not x))))))
-      (λ big. All-cons (λ b. b ≢ 10) x [] (λ z. absurd (plain_not x big z)) (All-nil (λ b. b ≢ 10))))
+    either (nat_lt x 32) _ (x ∷ [])
+    (λ small.
+    let P : ℕ → Type 0 = λ b. b ≢ 10 in
+    let digits = digit_char (x / 16) ∷ digit_char (x % 16) ∷ [] in
+    All-cons P 92 (117 ∷ 48 ∷ 48 ∷ digits) (λ z. absurd (omega arith)) (All-cons P 117 (48 ∷ 48 ∷ digits) (λ z. absurd (omega arith)) (All-cons P 48 (48 ∷ digits) (λ z. absurd (omega arith)) (All-cons P 48 digits (λ z. absurd (omega arith)) (two (digit_char (x / 16)) (digit_char (x % 16)) (high_not x (ltb-true x 32 small)) (low_not x))))))
+    (λ big. All-cons (λ b. b ≢ 10) x [] (λ z. absurd (plain_not x big z)) (All-nil (λ b. b ≢ 10))))
 
 one_line-escape : (s : List ℕ) → IsOneLine (escape s)
 one_line-escape [] = All-nil (λ b. b ≢ 10)

@@ -1,10 +1,9 @@
 -- A value that was read has its objects' names in order.
-use Rattle.std.proofs.Common.{◌≡◌, ℕ, List, [], ◌∷◌, Bool, true, ◌&&◌, Option, Some, None, option_map, option_and_then, IfSome, refl, subst}
+use Rattle.std.proofs.Common.{◌≡◌, ℕ, List, true, Option, Some, None, option_map, option_and_then, IfSome, refl}
 use Rattle.std.proofs.lemmas.Bool.{and_from}
-use Rattle.json.specs.Token.{Token}
 use Rattle.json.specs.Lex.{tokens}
 use Rattle.json.specs.Json as json
-use Rattle.serde_json.specs.Data.{Data, number, array, object, Items, item, Members, no_members, member, put}
+use Rattle.serde_json.specs.Data.{Data, number, array, object, Items, item, Members, no_members, put}
 use Rattle.serde_json.specs.Read.{number_of, of_json, of_items, of_members, max_depth, read}
 use Rattle.action_fields.specs.Ordered.{names_of, are_rising, is_ordered, items_are_ordered, members_are_ordered}
 use Rattle.action_fields.proofs.Rising.{rising-put, ordered-put}

@@ -1,6 +1,6 @@
 -- What a body says: the action, or the least faulty field in byte order of the names. The fields of each kind stand in that order.
 -- A missing or null required field is faulty, and so is a field of another type; other fields are passed over.
-use Rattle.std.specs.Prelude.{ℕ, List, [], Bool, true, false, codes, Option, Some, None, is_some, option_map, option_and_then, unwrap_or, Result, Ok, Err, if◌then◌else◌}
+use Rattle.std.specs.Prelude.{ℕ, List, [], true, false, codes, Option, Some, None, is_some, option_map, option_and_then, unwrap_or, Result, Ok, Err, if◌then◌else◌}
 use Rattle.serde_json.specs.Data.{Data}
 use Rattle.serde_json.specs.Find.{as_object}
 use Rattle.action_types.specs.declared.actions.Action.{Action}

@@ -1,5 +1,5 @@
 -- The kinds of lines, by the name of the one member that a line has.
-use Rattle.std.specs.Prelude.{ℕ, List, [], ◌∷◌, Bool, true, false, codes, bytes_eq, Option, Some, None, if◌then◌else◌}
+use Rattle.std.specs.Prelude.{ℕ, List, Bool, true, false, codes, bytes_eq, Option, Some, None, if◌then◌else◌}
 use Rattle.action_fields.specs.declared.kind.Kind.{Kind}
 use Rattle.action_fields.specs.declared.kind.Kind.TheVariants as kind
 

@@ -9,7 +9,6 @@
 --     format        the encoding of the data files
 use Rattle.std.specs.Prelude.{ℕ, ℤ, pos, int_lt, Bool, false, List, [], ◌∷◌, codes, Option, Some, None, is_some, option_map, option_and_then, if◌then◌else◌}
 use Rattle.serde_json.specs.Data.{Data, Items, no_items, item, Members, no_members, member}
-use Rattle.serde_json.specs.Data as json
 use Rattle.serde_json.specs.Find.{get, as_null, as_bool, as_number, as_str, as_array, as_object, as_i64}
 use Rattle.action_types.specs.declared.actions.Format.{Format}
 

@@ -1,5 +1,5 @@
 -- Which actions have fields that a reader accepts: no number below 0 where there may be none, no empty path, names of pairs in order.
-use Rattle.std.specs.Prelude.{ℕ, ℤ, pos, int_lt, ◌&&◌, Bool, true, false, not, List, [], ◌∷◌, is_some, Option, Some, None}
+use Rattle.std.specs.Prelude.{ℕ, ℤ, pos, int_lt, ◌&&◌, Bool, true, false, not, List, [], ◌∷◌, is_some}
 use Rattle.std.specs.Cmp.Lexicographic.{slice_cmp}
 use Rattle.std.specs.List.{list_all}
 use Rattle.std.specs.Option.{option_map_or}

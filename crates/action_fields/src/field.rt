@@ -9,7 +9,9 @@ ghost use Rattle.action_fields.specs.Gives.{Gives};
 ghost use Rattle.action_fields.specs.Types.{flag, format, from_zero, integer, names, pairs, path, text};
 
 use crate::fault::BadBody;
-use crate::types::{flag_of, format_of, from_zero_of, given, integer_of, names_of, pairs_of, path_of, text_of};
+use crate::types::{
+    flag_of, format_of, from_zero_of, given, integer_of, names_of, pairs_of, path_of, text_of,
+};
 use action_types::{Format, Name, Names, Pairs};
 use serde_json::Value;
 use std::alloc::Global;
@@ -116,7 +118,11 @@ pub(crate) fn required_format(alloc: Global, body: &Value, name: &str) -> Result
 }
 
 /// A string that may be absent.
-pub(crate) fn optional_text(alloc: Global, body: &Value, name: &str) -> Result<Option<Name>, BadBody>
+pub(crate) fn optional_text(
+    alloc: Global,
+    body: &Value,
+    name: &str,
+) -> Result<Option<Name>, BadBody>
     ensures { Gives told (λ x. x) result (optional text name.now (view body.now)) }
 {
     match given(body, name) {
@@ -129,7 +135,11 @@ pub(crate) fn optional_text(alloc: Global, body: &Value, name: &str) -> Result<O
 }
 
 /// An integer of 64 bits that may be absent.
-pub(crate) fn optional_integer(alloc: Global, body: &Value, name: &str) -> Result<Option<i64>, BadBody>
+pub(crate) fn optional_integer(
+    alloc: Global,
+    body: &Value,
+    name: &str,
+) -> Result<Option<i64>, BadBody>
     ensures { Gives told (λ x. x) result (optional integer name.now (view body.now)) }
 {
     match given(body, name) {
@@ -142,7 +152,11 @@ pub(crate) fn optional_integer(alloc: Global, body: &Value, name: &str) -> Resul
 }
 
 /// An integer of 64 bits from 0 that may be absent.
-pub(crate) fn optional_from_zero(alloc: Global, body: &Value, name: &str) -> Result<Option<i64>, BadBody>
+pub(crate) fn optional_from_zero(
+    alloc: Global,
+    body: &Value,
+    name: &str,
+) -> Result<Option<i64>, BadBody>
     ensures { Gives told (λ x. x) result (optional from_zero name.now (view body.now)) }
 {
     match given(body, name) {
@@ -155,7 +169,11 @@ pub(crate) fn optional_from_zero(alloc: Global, body: &Value, name: &str) -> Res
 }
 
 /// A boolean that may be absent.
-pub(crate) fn optional_flag(alloc: Global, body: &Value, name: &str) -> Result<Option<bool>, BadBody>
+pub(crate) fn optional_flag(
+    alloc: Global,
+    body: &Value,
+    name: &str,
+) -> Result<Option<bool>, BadBody>
     ensures { Gives told (λ x. x) result (optional flag name.now (view body.now)) }
 {
     match given(body, name) {
@@ -168,7 +186,11 @@ pub(crate) fn optional_flag(alloc: Global, body: &Value, name: &str) -> Result<O
 }
 
 /// An array of strings that may be absent.
-pub(crate) fn optional_names(alloc: Global, body: &Value, name: &str) -> Result<Option<Names>, BadBody>
+pub(crate) fn optional_names(
+    alloc: Global,
+    body: &Value,
+    name: &str,
+) -> Result<Option<Names>, BadBody>
     ensures { Gives told (λ x. x) result (optional names name.now (view body.now)) }
 {
     match given(body, name) {
@@ -181,7 +203,11 @@ pub(crate) fn optional_names(alloc: Global, body: &Value, name: &str) -> Result<
 }
 
 /// An object of strings and nulls that may be absent.
-pub(crate) fn optional_pairs(alloc: Global, body: &Value, name: &str) -> Result<Option<Pairs>, BadBody>
+pub(crate) fn optional_pairs(
+    alloc: Global,
+    body: &Value,
+    name: &str,
+) -> Result<Option<Pairs>, BadBody>
     ensures { Gives told (λ x. x) result (optional (pairs true) name.now (view body.now)) }
 {
     match given(body, name) {

@@ -1,6 +1,7 @@
 //! The values of fields and the fields themselves as tokens of a JSON writer.
 //! A call that is refused, for want of memory alone, may have written a part; what stood before the writer is kept.
 #![tactic(auto, unfolding(crate::specs::Tokens::field_tokens))]
+
 ghost use Rattle.std.specs.Prelude.{Some, option_map};
 ghost use Rattle.serde_json.specs.Data.{boolean, string};
 ghost use Rattle.action_fields.specs.Canonical.{format_data, integer_data, names_data, pairs_data, pairs_members, texts_items, value_data};

@@ -7,9 +7,9 @@ ghost use Rattle.action_fields.specs.Kinds.{is_action};
 
 use crate::fault::BadBody;
 use crate::field::{
-    optional_flag, optional_from_zero, optional_integer, optional_names, optional_pairs, optional_text, pairs_or_empty,
-    required_flag, required_format, required_from_zero, required_integer, required_names, required_pairs, required_path,
-    required_text,
+    optional_flag, optional_from_zero, optional_integer, optional_names, optional_pairs,
+    optional_text, pairs_or_empty, required_flag, required_format, required_from_zero,
+    required_integer, required_names, required_pairs, required_path, required_text,
 };
 use crate::kind::Kind;
 use action_types::{Action, Add, Info, Meta, Name, Protocol, Remove, Txn};

@@ -4,8 +4,7 @@ ghost use Rattle.serde_json.specs.View.{items_view, members_view, view};
 ghost use Rattle.action_fields.specs.Types.{flag, format, from_zero, given, integer, names, options, pairs, pairs_in, path, text, texts_in, value_in};
 
 use action_types::{Format, Name, Names, Pairs};
-use serde_json::Value;
-use serde_json::Map;
+use serde_json::{Map, Value};
 use std::alloc::{AllocError, Global};
 
 /// The value of a field, where the body has one that is not null.
@@ -14,13 +13,7 @@ pub(crate) fn given<'v>(body: &'v Value, name: &str) -> Option<&'v Value>
 {
     match body.get(name) {
         None => None,
-        Some(value) => {
-            if value.is_null() {
-                None
-            } else {
-                Some(value)
-            }
-        }
+        Some(value) => { if value.is_null() { None } else { Some(value) } }
     }
 }
 
@@ -129,11 +122,7 @@ fn values_of(
 }
 
 /// A string, or none for a null where `nulls` holds; refused for want of memory alone.
-fn value_of(
-    alloc: Global,
-    value: &Value,
-    nulls: bool,
-) -> Result<Option<Option<Name>>, AllocError>
+fn value_of(alloc: Global, value: &Value, nulls: bool) -> Result<Option<Option<Name>>, AllocError>
     ensures { IfOk result (λ o. o ≡ value_in nulls (view value.now)) }
 {
     if value.is_null() {

@@ -31,13 +31,18 @@ fn is_valid_meta(meta: &Meta) -> bool
 fn is_valid_remove(remove: &Remove) -> bool
     ensures { result ≡ is_valid_remove remove.now }
 {
-    are_optional_in_order(&remove.values) && !remove.path.is_empty() && is_optional_from_zero(remove.size)
+    are_optional_in_order(&remove.values)
+        && !remove.path.is_empty()
+        && is_optional_from_zero(remove.size)
 }
 
 fn is_valid_add(add: &Add) -> bool
     ensures { result ≡ is_valid_add add.now }
 {
-    are_in_order(add.values.as_slice()) && !add.path.is_empty() && add.size >= 0 && are_optional_in_order(&add.tags)
+    are_in_order(add.values.as_slice())
+        && !add.path.is_empty()
+        && add.size >= 0
+        && are_optional_in_order(&add.tags)
 }
 
 fn is_optional_from_zero(number: Option<i64>) -> bool

@@ -9,8 +9,8 @@ ghost use Rattle.action_fields.specs.Tokens.{Puts, data_tokens, fields_tokens};
 
 use crate::kind::kind_of;
 use crate::put::{
-    put_format, put_integer, put_names, put_optional_flag, put_optional_integer, put_optional_names, put_optional_pairs,
-    put_optional_text, put_pairs, put_text,
+    put_format, put_integer, put_names, put_optional_flag, put_optional_integer,
+    put_optional_names, put_optional_pairs, put_optional_text, put_pairs, put_text,
 };
 use action_types::{Action, Add, Info, Meta, Protocol, Remove, Txn};
 use json::Writer;

@@ -1,5 +1,4 @@
 use Rattle.action_fields.proofs.Bodies.{body_of-body_data}
-use Rattle.action_fields.proofs.Again.{read-compact_text}
 use Rattle.action_fields.proofs.laws.canonical_bodies_are_read.Goals as goal
 
 pub returns : goal.returns

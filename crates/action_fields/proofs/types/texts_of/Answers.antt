@@ -1,5 +1,5 @@
-use Rattle.std.proofs.Common.{sym, ◌∙◌, ap}
-use Rattle.action_fields.proofs.Lists.{behind, behind-nil, texts-more, texts-none}
+use Rattle.std.proofs.Common.{sym, ◌∙◌}
+use Rattle.action_fields.proofs.Lists.{behind-nil, texts-more, texts-none}
 use Rattle.action_fields.proofs.types.texts_of.Goals as goal
 
 pub loop-item-init : goal.loop-item-init

@@ -1,4 +1,4 @@
-use Rattle.std.proofs.Common.{◌≡◌, drop}
+use Rattle.std.proofs.Common.{◌≡◌}
 use Rattle.serde_json.specs.View.{members_view}
 use Rattle.action_fields.specs.Types.{pairs_in}
 use Rattle.action_fields.proofs.Lists.{behind}

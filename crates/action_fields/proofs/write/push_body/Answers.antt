@@ -1,4 +1,3 @@
-use Rattle.std.proofs.Common.{OnOk, rules, subst}
 use Rattle.action_fields.specs.Canonical.{body_data, canonical_body}
 use Rattle.action_fields.proofs.Tokens.{printed}
 use Rattle.action_fields.proofs.write.push_body.Goals as goal

@@ -1,4 +1,3 @@
-use Rattle.std.proofs.Common.{OnOk, rules, subst}
 use Rattle.action_fields.specs.Canonical.{action_data, canonical_line}
 use Rattle.action_fields.proofs.Tokens.{printed, printed_utf8}
 use Rattle.action_fields.proofs.write.push_line.Goals as goal

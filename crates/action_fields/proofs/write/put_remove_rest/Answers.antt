@@ -1,4 +1,4 @@
-use Rattle.std.proofs.Common.{append-nil, append_assoc, rules, arith, ◌∙◌}
+use Rattle.std.proofs.Common.{append-nil, append_assoc, ◌∙◌}
 use Rattle.action_fields.proofs.write.put_remove_rest.Goals as goal
 
 pub returns-clause-puts : goal.returns-clause-puts
