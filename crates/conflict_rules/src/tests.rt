@@ -1,0 +1,223 @@
+use super::*;
+use action_types::{Action, Add, Format, Info, Meta, Name, Names, Pairs, Protocol, Remove, Txn};
+use reconcile::State;
+use std::alloc::Global;
+use std::test::Fail;
+
+/// An add of a file.
+fn add(alloc: Global, path: &str, change: bool) -> Result<Add, Fail> {
+    Ok(Add {
+        change,
+        modified: 5,
+        values: Pairs::new(alloc),
+        path: Name::from_str(alloc, path)?,
+        size: 10,
+        stats: None,
+        tags: None,
+    })
+}
+
+/// A remove of a file.
+fn remove(alloc: Global, path: &str) -> Result<Remove, Fail> {
+    Ok(Remove {
+        change: true,
+        deleted: None,
+        extended: None,
+        values: None,
+        path: Name::from_str(alloc, path)?,
+        size: None,
+    })
+}
+
+/// A metaData.
+fn meta(alloc: Global) -> Result<Meta, Fail> {
+    Ok(Meta {
+        configuration: Pairs::new(alloc),
+        created: None,
+        description: None,
+        format: Format {
+            provider: Name::from_str(alloc, "parquet")?,
+            options: Pairs::new(alloc),
+        },
+        id: Name::from_str(alloc, "t1")?,
+        name: None,
+        columns: Names::new(alloc),
+        schema: Name::from_str(alloc, "{}")?,
+    })
+}
+
+/// The action that a few words name.
+fn action(alloc: Global, text: &str) -> Result<Action, Fail> {
+    let mut words = text.split_whitespace();
+    let kind = words.next().unwrap_or("");
+    let first = words.next().unwrap_or("");
+    match kind {
+        "info" => Ok(Action::Info(Info {
+            time: 5,
+            txn_id: None,
+        })),
+        "protocol" => Ok(Action::Protocol(Protocol {
+            reader: 3,
+            writer: 7,
+            reader_features: None,
+            writer_features: None,
+        })),
+        "meta" => Ok(Action::Meta(meta(alloc)?)),
+        "txn" => Ok(Action::Txn(Txn {
+            app: Name::from_str(alloc, first)?,
+            updated: None,
+            number: 9,
+        })),
+        "add" => Ok(Action::Add(add(alloc, first, true)?)),
+        "same" => Ok(Action::Add(add(alloc, first, false)?)),
+        _ => Ok(Action::Remove(remove(alloc, first)?)),
+    }
+}
+
+/// The actions that a text names, one after each `;`.
+fn commit(alloc: Global, text: &str) -> Result<Vec<Action>, Fail> {
+    let mut actions = Vec::new(alloc);
+    for part in text.split(';') {
+        actions.push(action(alloc, part)?)?;
+    }
+    Ok(actions)
+}
+
+/// What an intent reads: `none`, `all`, or these paths.
+fn reads(alloc: Global, text: &str) -> Result<Reads, Fail> {
+    if text == "none" {
+        return Ok(Reads::None);
+    }
+    if text == "all" {
+        return Ok(Reads::All);
+    }
+    let mut paths = Names::new(alloc);
+    for path in text.split_whitespace() {
+        paths.push(Name::from_str(alloc, path)?)?;
+    }
+    Ok(Reads::Paths(paths))
+}
+
+/// An intent of the application A.
+fn intent(alloc: Global, level: Level, read: &str, removed: &str) -> Result<Intent, Fail> {
+    let mut removes = Removes::new(alloc);
+    for path in removed.split_whitespace() {
+        removes.push(remove(alloc, path)?)?;
+    }
+    let mut adds = Adds::new(alloc);
+    adds.push(add(alloc, "new", true)?)?;
+    Ok(Intent {
+        app: Name::from_str(alloc, "A")?,
+        number: 1,
+        level,
+        reads: reads(alloc, read)?,
+        adds,
+        removes,
+        change: None,
+    })
+}
+
+/// What a conflict says, in a line.
+fn said(alloc: Global, clash: Option<Clash>) -> Result<String, Fail> {
+    match clash {
+        None => Ok(String::from_str(alloc, "")?),
+        Some(clash) => {
+            let rule = clash.rule;
+            let key = clash.key;
+            Ok(format!(in alloc; "{rule:?} {key}")?)
+        }
+    }
+}
+
+/// The base: `a` and `b` are live, and `gone` is a tombstone.
+fn base(alloc: Global) -> Result<State, Fail> {
+    let first = commit(alloc, "info; protocol; meta; add a; add b; add gone")?;
+    let second = commit(alloc, "info; remove gone")?;
+    let state = State::empty(alloc).apply(first.as_slice())?;
+    Ok(state.apply(second.as_slice())?)
+}
+
+/// What the conflict of an intent with a winner says, where a row is the reads, the removes and the
+/// winner, with a `|` between them.
+fn conflict(alloc: Global, level: Level, row: &str) -> Result<String, Fail> {
+    let mut parts = row.split('|');
+    let read = parts.next().unwrap_or("");
+    let removed = parts.next().unwrap_or("");
+    let winner = commit(alloc, parts.next().unwrap_or(""))?;
+    let intent = intent(alloc, level, read, removed)?;
+    let base = base(alloc)?;
+    said(alloc, first_conflict(&intent, &base, winner.as_slice()))
+}
+
+#[test]
+fn conflicts(rt: HostRuntime) -> Result<(), Fail> {
+    let rows = [
+        ("none||info; txn B; add x", ""),
+        ("none||info; protocol", "Protocol "),
+        ("none||info; meta", "Metadata "),
+        ("none||info; meta; protocol", "Protocol "),
+        ("none||info; txn A; meta", "Metadata "),
+        ("none|a|info; txn A; remove a", "Transaction A"),
+        ("none|a|info; remove a", "DeleteDelete a"),
+        ("none|b a|info; remove b; remove a", "DeleteDelete a"),
+        ("none|a|info; remove b", ""),
+        ("b|a|info; remove b; remove a", "DeleteDelete a"),
+        ("b||info; remove b", "DeleteRead b"),
+        ("b||info; remove a", ""),
+        ("all||info; remove b; remove a", "DeleteRead a"),
+        ("all||info; remove gone", ""),
+        ("all||info; add x", ""),
+        ("all||info; remove gone; add x", "Append x"),
+    ];
+    for (row, wanted) in rows {
+        let clash = conflict(rt.alloc(), Level::WriteSerializable, row)?;
+        assert_eq!(rt; clash.as_str(), wanted, "{row}");
+    }
+    Ok(())
+}
+
+#[test]
+fn serializable_conflicts(rt: HostRuntime) -> Result<(), Fail> {
+    let rows = [
+        ("none||info; add x; remove a", ""),
+        ("all||info; add y; add x", "Append x"),
+        ("all||info; same x", ""),
+        ("all||info; add x; remove a", "DeleteRead a"),
+        ("a||info; add x", ""),
+    ];
+    for (row, wanted) in rows {
+        let clash = conflict(rt.alloc(), Level::Serializable, row)?;
+        assert_eq!(rt; clash.as_str(), wanted, "{row}");
+    }
+    Ok(())
+}
+
+/// What the first conflict of an intent with these winners says, after the place of the winner.
+fn lowest(alloc: Global, texts: &[&str]) -> Result<String, Fail> {
+    let mut winners = Vec::new(alloc);
+    for text in texts {
+        winners.push(commit(alloc, text)?)?;
+    }
+    let intent = intent(alloc, Level::WriteSerializable, "b", "a")?;
+    let base = base(alloc)?;
+    match first_conflict_of(&intent, &base, winners.as_slice()) {
+        None => Ok(String::from_str(alloc, "")?),
+        Some(found) => {
+            let place = found.place;
+            let key = found.clash.key;
+            Ok(format!(in alloc; "{place} {key}")?)
+        }
+    }
+}
+
+#[test]
+fn first_winner_is_named(rt: HostRuntime) -> Result<(), Fail> {
+    let none = lowest(rt.alloc(), &["info; add x", "info; remove c"])?;
+    assert_eq!(rt; none.as_str(), "");
+    let second = lowest(
+        rt.alloc(),
+        &["info; add x", "info; remove b; remove a", "info; meta"],
+    )?;
+    assert_eq!(rt; second.as_str(), "1 a");
+    Ok(())
+}
