@@ -8,9 +8,12 @@ const LIMITS: Limits = Limits {
     bytes: 1024,
 };
 
+fn is_send<T: Send>(_value: &T) {}
+
 #[test]
 fn ratifies_up_to_the_limits(rt: HostRuntime) -> Result<(), Fail> {
     let mut catalog = Catalog::new(rt.alloc(), LIMITS);
+    is_send(&catalog);
     catalog.reserve()?;
     assert_eq!(rt; catalog.ratify(0, 7, -5), Ratify::Done);
     assert_eq!(rt; catalog.limits(), LIMITS);

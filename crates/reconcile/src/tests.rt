@@ -118,33 +118,60 @@ fn same(state: &State, commits: &[Vec<Action>]) -> bool {
         && state.meta().map(|m| m.created) == plain::meta(commits).map(|m| m.created)
 }
 
-/// The four commits of a table whose file is removed and added again.
-fn four_commits(alloc: Global) -> Result<[Vec<Action>; 4], AllocError> {
-    Ok([
-        vec![in alloc; info(1000), protocol(3), meta(alloc, 1000)?]?,
-        vec![in alloc; info(1001), txn(alloc, "A", 1)?, add(alloc, "a", 10)?]?,
-        vec![in alloc; info(1002), txn(alloc, "A", 2)?, remove(alloc, "a", 1002)?]?,
-        vec![in alloc; info(1003), txn(alloc, "A", 3)?, add(alloc, "a", 30)?]?,
-    ])
+fn created(alloc: Global, time: i64) -> Result<Vec<Action>, AllocError> {
+    let mut actions = Vec::new(alloc);
+    actions.push(info(time))?;
+    actions.push(protocol(3))?;
+    actions.push(meta(alloc, time)?)?;
+    Ok(actions)
+}
+
+/// A commit of the application `A` with this number and one more action.
+fn written(
+    alloc: Global,
+    time: i64,
+    number: i64,
+    action: Action,
+) -> Result<Vec<Action>, AllocError> {
+    let mut actions = Vec::new(alloc);
+    actions.push(info(time))?;
+    actions.push(txn(alloc, "A", number)?)?;
+    actions.push(action)?;
+    Ok(actions)
+}
+
+/// The first three commits of a table whose file is removed and added again.
+fn three_commits(alloc: Global) -> Result<Vec<Vec<Action>>, AllocError> {
+    let mut commits = Vec::new(alloc);
+    commits.push(created(alloc, 1000)?)?;
+    commits.push(written(alloc, 1001, 1, add(alloc, "a", 10)?)?)?;
+    commits.push(written(alloc, 1002, 2, remove(alloc, "a", 1002)?)?)?;
+    Ok(commits)
+}
+
+fn state_of(alloc: Global, commits: &[Vec<Action>]) -> Result<State, AllocError> {
+    let mut state = State::empty(alloc);
+    for commit in commits {
+        state = state.apply(commit.as_slice())?;
+    }
+    Ok(state)
 }
 
 #[test]
 fn remove_and_add_again(rt: HostRuntime) -> Result<(), Fail> {
     let alloc = rt.alloc();
-    let commits = four_commits(alloc)?;
-    let mut state = State::empty(alloc);
-    for commit in &commits[..3] {
-        state = state.apply(commit.as_slice())?;
-    }
+    let mut commits = three_commits(alloc)?;
+    let state = state_of(alloc, commits.as_slice())?;
     assert!(rt; state.live("a").is_none());
     assert_eq!(rt; state.gone("a").map(|r| r.deleted), Some(Some(1002)));
     assert_eq!(rt; state.time(), Some(1002));
-    let state = state.apply(commits[3].as_slice())?;
+    commits.push(written(alloc, 1003, 3, add(alloc, "a", 30)?)?)?;
+    let state = state_of(alloc, commits.as_slice())?;
     assert_eq!(rt; state.live("a").map(|a| a.size), Some(30));
     assert!(rt; state.gone("a").is_none());
     assert_eq!(rt; state.number("A"), Some(3));
     assert_eq!(rt; state.time(), Some(1003));
-    assert!(rt; same(&state.copy()?, &commits));
+    assert!(rt; same(&state.copy()?, commits.as_slice()));
     assert_eq!(rt; state.with_time(7).time(), Some(7));
     Ok(())
 }

@@ -1,0 +1,10 @@
+pub mod Lists
+pub mod Tokens
+pub mod Rising
+pub mod Reading
+pub mod Again
+pub mod Found
+pub mod Bodies
+pub mod OneLine
+pub mod Lines
+pub mod Accepted

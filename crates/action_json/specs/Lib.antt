@@ -1,0 +1,5 @@
+pub mod Lines
+pub mod Commit
+pub mod Text
+pub mod Keys
+pub mod Reading

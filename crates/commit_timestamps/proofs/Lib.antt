@@ -1,0 +1,4 @@
+pub mod DigitLemmas
+pub mod Narrowing
+pub mod Rising
+pub mod Versions

@@ -1,0 +1,226 @@
+ghost use Rattle.std.specs.Prelude.{◌≡◌, IfOk};
+
+use super::*;
+use std::alloc::{AllocError, Global};
+use std::io;
+use std::io::{ErrorKind, Read, Write};
+use std::test::Fail;
+
+/// What a new reader answers of a source.
+fn heard<S: Source>(alloc: Global, source: &mut S) -> Result<String, AllocError> {
+    said(alloc, Lines::new(alloc)?, source)
+}
+
+/// What a reader answers, up to its first stop and once more: each line's number and text, `!` for one that is too long.
+fn said<S: Source>(alloc: Global, mut lines: Lines, source: &mut S) -> Result<String, AllocError> {
+    let mut all = String::new(alloc);
+    let mut stopped = false;
+    for _ in 0..20 {
+        let stop = match lines.next(source) {
+            Ok(Some(line)) => {
+                let text = String::from_utf8_lossy(alloc, line.text.as_slice())?;
+                all.push_str(format!(in alloc; "{}={text} ", line.number)?.as_str())?;
+                continue;
+            }
+            Err(LineError::TooLong { at }) => {
+                all.push_str(format!(in alloc; "{at}! ")?.as_str())?;
+                continue;
+            }
+            Ok(None) => "end",
+            Err(LineError::ReadFault) => "fault",
+            Err(LineError::TooMuch) => "much",
+            Err(LineError::Memory) => "memory",
+        };
+        all.push_str(stop)?;
+        if stopped {
+            break;
+        }
+        stopped = true;
+        all.push(' ')?;
+    }
+    Ok(all)
+}
+
+#[test]
+fn lines_in_pieces(rt: HostRuntime) -> Result<(), Fail> {
+    let alloc = rt.alloc();
+    for (text, want) in [
+        ("", "end end"),
+        ("\n", "1= end end"),
+        ("one\ntwo\n", "1=one 2=two end end"),
+        ("one\n\n \r\nlast", "1=one 2= 3= \r 4=last end end"),
+    ] {
+        for piece in [1, 3, 100] {
+            let bytes = text.as_bytes().to_vec(alloc)?;
+            let mut source = MemSource::new(bytes, piece, Vec::new(alloc));
+            assert_eq!(rt;
+                heard(alloc, &mut source)?.as_str(),
+                want,
+                "{text:?} in pieces of {piece}"
+            );
+        }
+    }
+    // The reads are `o`, `n`, `e`, LF, then the one that fails.
+    for (fails, want) in [
+        (1, "fault fault"),
+        (5, "1=one fault fault"),
+        (9, "1=one 2=two end end"),
+    ] {
+        let bytes = b"one\ntwo".to_vec(alloc)?;
+        let mut source = MemSource::new(bytes, 1, vec![in alloc; fails]?);
+        assert_eq!(rt;
+            heard(alloc, &mut source)?.as_str(),
+            want,
+            "read {fails} fails"
+        );
+        assert_eq!(rt; source.faults() == 1, fails < 9, "read {fails} fails");
+    }
+    Ok(())
+}
+
+#[test]
+fn longest_line(rt: HostRuntime) -> Result<(), Fail> {
+    let alloc = rt.alloc();
+    for (len, piece) in [
+        (MAX_LINE, 1),
+        (MAX_LINE, 10_000_000),
+        (MAX_LINE + 1, 1),
+        (MAX_LINE + 1, 10_000_000),
+    ] {
+        for last in [false, true] {
+            let mut bytes = vec![in alloc; b'a'; len]?;
+            if !last {
+                bytes.extend_from_slice(b"\nnext\n")?;
+            }
+            let mut source = MemSource::new(bytes, piece, Vec::new(alloc));
+            let mut lines = Lines::new(alloc)?;
+            let first = match lines.next(&mut source) {
+                Ok(Some(line)) => line.text.len(),
+                Err(LineError::TooLong { at: 1 }) => 0,
+                _ => 1,
+            };
+            assert_eq!(rt;
+                first,
+                if len > MAX_LINE { 0 } else { len },
+                "{len} bytes in pieces of {piece}"
+            );
+            let second = match lines.next(&mut source) {
+                Ok(Some(line)) => line.number == 2 && line.text.as_slice() == b"next".as_slice(),
+                Ok(None) => last,
+                Err(_) => false,
+            };
+            assert!(rt; second, "after {len} bytes in pieces of {piece}");
+        }
+    }
+    Ok(())
+}
+
+#[test]
+fn too_much(rt: HostRuntime) -> Result<(), Fail> {
+    let alloc = rt.alloc();
+    for (text, want) in [
+        ("one\ntwo\nno", "1=one 2=two much much"),
+        ("one\ntwo\nno more", "1=one 2=two much much"),
+        ("one\ntwo\n\n\nfive", "1=one 2=two 3= 4= much much"),
+        ("one\ntwo\nx", "1=one 2=two 3=x end end"),
+    ] {
+        let mut source = MemSource::new(text.as_bytes().to_vec(alloc)?, 4, Vec::new(alloc));
+        let lines = Lines::having_read(alloc, MAX_INPUT - 10)?;
+        assert_eq!(rt; said(alloc, lines, &mut source)?.as_str(), want, "{text:?}");
+    }
+    Ok(())
+}
+
+#[test]
+fn writes(rt: HostRuntime) -> Result<(), Fail> {
+    let alloc = rt.alloc();
+    let mut sink = MemSink::new(alloc, vec![in alloc; 3]?);
+    for (text, written) in [
+        ("one", true),
+        ("", true),
+        ("two", true),
+        ("three", false),
+        ("four", true),
+    ] {
+        assert_eq!(rt;
+            put_all(&mut sink, text.as_bytes()).is_ok(),
+            written,
+            "{text}"
+        );
+    }
+    assert!(rt; sink.written() == b"onetwofour".as_slice());
+    assert_eq!(rt; (sink.calls(), sink.faults()), (4, 1));
+    Ok(())
+}
+
+#[test]
+fn clocks_and_ids(rt: HostRuntime) -> Result<(), Fail> {
+    let alloc = rt.alloc();
+    let mut fixed = FixedClock::new(1_000);
+    let mut system = SystemClock::new(rt.clone()?);
+    for _ in 0..3 {
+        assert_eq!(rt; fixed.now_ms(), 1_000);
+        assert!(rt; system.now_ms() > 1_600_000_000_000);
+    }
+    let most = u128::MAX;
+    let mut counting = ListIds::from(alloc, most - 1);
+    let mut listed = ListIds::of(vec![in alloc; 1, 2, 2]?);
+    for (counted, id) in [(most - 1, 1), (most, 2), (most, 2), (most, 2)] {
+        assert_eq!(rt; (counting.next(), listed.next()), (counted, id));
+    }
+    Ok(())
+}
+
+/// A reader and a writer that fail, but are interrupted first, or that take nothing.
+#[derive(Drop)]
+struct Broken(Option<ErrorKind>);
+
+impl Broken {
+    fn answer(&mut self) -> io::Result<usize>
+        ensures { IfOk result (λ n. n ≡ 0) }
+    {
+        match self.0.take() {
+            Some(kind) => Err(io::Error::from(kind)),
+            None => Ok(0),
+        }
+    }
+}
+
+impl Read for Broken {
+    fn read(&mut self, _into: &mut [u8]) -> io::Result<usize> {
+        self.answer()
+    }
+}
+
+impl Write for Broken {
+    fn write(&mut self, _from: &[u8]) -> io::Result<usize> {
+        self.answer()
+    }
+
+    fn flush(&mut self) -> io::Result<()> {
+        Ok(())
+    }
+}
+
+#[test]
+fn adapters(rt: HostRuntime) -> Result<(), Fail> {
+    let alloc = rt.alloc();
+    let mut source = StdSource::new(b"one\ntwo".as_slice());
+    assert_eq!(rt; heard(alloc, &mut source)?.as_str(), "1=one 2=two end end");
+    for (error, read, write) in [
+        (None, Ok(0), Err(WriteFault)),
+        (Some(ErrorKind::Interrupted), Ok(0), Err(WriteFault)),
+        (Some(ErrorKind::BrokenPipe), Err(ReadFault), Err(WriteFault)),
+    ] {
+        assert_eq!(rt; StdSource::new(Broken(error)).read(&mut [0; 4]), read);
+        assert_eq!(rt; StdSink::new(Broken(error)).write(b"one"), write);
+    }
+    let mut taken = Vec::new(alloc);
+    let mut sink = StdSink::new(&mut taken);
+    assert!(rt; put_all(&mut sink, b"one").is_ok());
+    assert!(rt; put_all(&mut sink, b"two").is_ok());
+    assert!(rt; taken.as_slice() == b"onetwo".as_slice());
+    let mut output = StdSink::new(io::writer(&rt));
+    assert!(rt; put_all(&mut output, b"").is_ok());
+    Ok(())
+}

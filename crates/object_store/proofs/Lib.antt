@@ -1,0 +1,3 @@
+mod HeldFiles
+mod Counting
+pub mod FileLaws

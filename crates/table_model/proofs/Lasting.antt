@@ -1,0 +1,32 @@
+-- What holds after any work of the one caller of a world.
+use Rattle.std.proofs.Common.{◌≡◌, ◌<◌, ◌≤◌, inl, inr, length, arith}
+use Rattle.table_model.specs.World.{WorldData, log_of}
+use Rattle.table_model.specs.Knowledge.{Knowledge}
+use Rattle.table_model.specs.Alone.{Alone, HasAll, IsAfter}
+use Rattle.table_model.specs.Outcome.{Outcome}
+use Rattle.table_model.proofs.Worlds.{later_refl, later_trans, below_or_above}
+
+pub after_refl : (a : Alone) → IsAfter a a
+after_refl a = record { later = later_refl a.world; all = λ h. h; cause = λ less. absurd (omega arith) }
+
+pub after_trans : (a b c : Alone) → IsAfter a b → IsAfter b c → IsAfter a c
+after_trans a b c p q = record {
+  later = later_trans a.world b.world c.world p.later q.later;
+  all = λ h. q.all (p.all h);
+  cause = λ less. elim (below_or_above a.known.faults b.known.faults) [
+    | inl first ↦ (let f = p.cause first in let g = q.later.tally in omega arith)
+    | inr none ↦ (let f = q.cause (omega arith) in let g = p.later.tally in omega arith)
+  ];
+}
+
+abbrev alone : WorldData → Knowledge → Alone
+alone w k = record { world = w; known = k }
+
+all_after : (w x : WorldData) (k m : Knowledge) → Outcome w x k m → HasAll (alone w k) → HasAll (alone x m)
+all_after w x k m o h = record {
+  seen = o.alone h.seen;
+  mine = let e = o.own in let f = h.mine in omega (arith, e, f);
+}
+
+pub after_outcome : (w x : WorldData) (k m : Knowledge) → Outcome w x k m → IsAfter (record { world = w; known = k }) (record { world = x; known = m })
+after_outcome w x k m o = record { later = o.later; all = all_after w x k m o; cause = λ less. (let f = o.faults in omega arith) }

@@ -1,0 +1,14 @@
+pub mod FileLaws
+pub mod Growing
+pub mod Logs
+pub mod Sound
+pub mod Worlds
+pub mod Knowing
+pub mod Outcomes
+pub mod Listing
+pub mod Asking
+pub mod Reading
+pub mod Changing
+pub mod Ratifying
+pub mod Calls
+pub mod Lasting

@@ -1,0 +1,14 @@
+//! The model of a table: plain data of its world, what one caller knows, what each turn does and teaches,
+//! and the trait of a caller's access.
+#![tactic(auto)]
+
+mod answers;
+mod known;
+mod steps;
+
+pub use answers::{Looked, Spot, Staged, StepFault};
+pub use commit_catalog::{Commits, Limits, Ratified, Ratify};
+pub use known::{Clearing, Mark, Refusal, Try};
+pub use log_names::LogName;
+pub use object_store::{Bytes, Gone, Put};
+pub use steps::Steps;
