@@ -171,16 +171,36 @@ fn is_added_again(state: &State) -> bool {
         && state.time() == Some(1003)
 }
 
+fn four_commits(alloc: Global) -> Result<Vec<Vec<Action>>, AllocError> {
+    let mut commits = three_commits(alloc)?;
+    commits.push(written(alloc, 1003, 3, add(alloc, "a", 30)?)?)?;
+    Ok(commits)
+}
+
+fn removes(alloc: Global) -> Result<bool, AllocError> {
+    let commits = three_commits(alloc)?;
+    let state = state_of(alloc, commits.as_slice())?;
+    Ok(is_removed(&state) && same(&state, commits.as_slice()))
+}
+
+fn adds_again(alloc: Global) -> Result<bool, AllocError> {
+    let commits = four_commits(alloc)?;
+    let state = state_of(alloc, commits.as_slice())?;
+    Ok(is_added_again(&state) && same(&state, commits.as_slice()))
+}
+
+fn copies(alloc: Global) -> Result<bool, AllocError> {
+    let commits = four_commits(alloc)?;
+    let copy = state_of(alloc, commits.as_slice())?.copy()?;
+    Ok(same(&copy, commits.as_slice()) && copy.with_time(7).time() == Some(7))
+}
+
 #[test]
 fn remove_and_add_again(rt: HostRuntime) -> Result<(), Fail> {
     let alloc = rt.alloc();
-    let mut commits = three_commits(alloc)?;
-    assert!(rt; is_removed(&state_of(alloc, commits.as_slice())?));
-    commits.push(written(alloc, 1003, 3, add(alloc, "a", 30)?)?)?;
-    let state = state_of(alloc, commits.as_slice())?;
-    assert!(rt; is_added_again(&state));
-    assert!(rt; same(&state.copy()?, commits.as_slice()));
-    assert_eq!(rt; state.with_time(7).time(), Some(7));
+    assert!(rt; removes(alloc)?);
+    assert!(rt; adds_again(alloc)?);
+    assert!(rt; copies(alloc)?);
     Ok(())
 }
 
