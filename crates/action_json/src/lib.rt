@@ -6,6 +6,8 @@ mod keys;
 pub mod laws;
 mod line;
 mod reading;
+#[cfg(test)]
+mod tests;
 mod valid;
 mod writing;
 
