@@ -1,5 +1,7 @@
 //! What no clause says: texts and their meanings from outside, and that each call succeeds with ample memory.
-use crate::{BadBody, BadCommit, Kind, Why, is_commit, push_body, read_body, read_commit, write_commit};
+use crate::{
+    BadBody, BadCommit, Kind, Why, is_commit, push_body, read_body, read_commit, write_commit,
+};
 use action_types::Action;
 use serde_json::Value;
 use std::alloc::{AllocError, Global};
@@ -47,24 +49,39 @@ const TEXTS: [(&str, &str); 14] = [
     ("\n \n@\n\n", "1"),
     (r#"{"txn":{"appId":"A","version":1}}"#, "1 info"),
     (r#"{"cdc":{}}"#, "1 info"),
-    (r#"{"commitInfo":{"timestamp":5}}"#, "1 field commitInfo inCommitTimestamp"),
+    (
+        r#"{"commitInfo":{"timestamp":5}}"#,
+        "1 field commitInfo inCommitTimestamp",
+    ),
     (r#"{"commitInfo":[]}"#, "1 field commitInfo "),
     ("nope", "1 json"),
     ("[]", "1 member"),
     ("@\n@", "2 double commitInfo "),
     ("@\n\n{\"cdc\":{}}", "1"),
-    ("@\n{\"txn\":{\"appId\":\"A\",\"version\":1}}\n\n{\"txn\":{\"appId\":\"A\",\"version\":2}}", "4 double txn A"),
+    (
+        "@\n{\"txn\":{\"appId\":\"A\",\"version\":1}}\n\n{\"txn\":{\"appId\":\"A\",\"version\":2}}",
+        "4 double txn A",
+    ),
     ("@\n{\"add\":{\"pa", "2 json"),
 ];
 
 /// The second line of a text whose first is a commitInfo with a time.
 const LINES: [(&str, &str); 30] = [
-    (r#"{"add":{"path":"a","partitionValues":{},"size":1.0,"modificationTime":5,"dataChange":true}}"#, "2 field add size"),
+    (
+        r#"{"add":{"path":"a","partitionValues":{},"size":1.0,"modificationTime":5,"dataChange":true}}"#,
+        "2 field add size",
+    ),
     (r#"{"add":{},"txn":{}}"#, "2 member"),
     (r#"{}"#, "2 member"),
     (r#""add""#, "2 member"),
-    (r#"{"txn":{"appId":"A","version":1},"txn":{"appId":"B","version":2}}"#, "2"),
-    (r#"{"txn":{"appId":"A","version":1,"version":"x"}}"#, "2 field txn version"),
+    (
+        r#"{"txn":{"appId":"A","version":1},"txn":{"appId":"B","version":2}}"#,
+        "2",
+    ),
+    (
+        r#"{"txn":{"appId":"A","version":1,"version":"x"}}"#,
+        "2 field txn version",
+    ),
     (r#"{"txn":{"appId":"A","version":"x","version":1}}"#, "2"),
     (r#"{"txn":null}"#, "2 field txn "),
     (r#"{"txn":{}}"#, "2 field txn appId"),
@@ -72,23 +89,41 @@ const LINES: [(&str, &str); 30] = [
     (r#"{"sidecar":{"path":1}}"#, "1"),
     (r#"{"checkpointMetadata":{"version":"x"}}"#, "1"),
     (r#"{"domainMetadata":{}}"#, "1"),
-    (r#"{"txn":{"appId":"\u00e9\n\"\\\/\ud83d\ude00","version":1}}"#, "2"),
+    (
+        r#"{"txn":{"appId":"\u00e9\n\"\\\/\ud83d\ude00","version":1}}"#,
+        "2",
+    ),
     (r#"{"txn":{"appId":"é😀","version":1}}"#, "2"),
     (r#"{"txn":{"appId":"\ud83d","version":1}}"#, "2 json"),
     (r#"{"cdc":"\udc00"}"#, "2 json"),
     (r#"{"cdc":1e400}"#, "2 json"),
     (r#"{"cdc":1e300}"#, "1"),
-    (r#"{"txn":{"appId":"A","version":-0}}"#, "2 field txn version"),
-    (r#"{"txn":{"appId":"A","version":1e0}}"#, "2 field txn version"),
+    (
+        r#"{"txn":{"appId":"A","version":-0}}"#,
+        "2 field txn version",
+    ),
+    (
+        r#"{"txn":{"appId":"A","version":1e0}}"#,
+        "2 field txn version",
+    ),
     (r#"{"txn":{"appId":"A","version":01}}"#, "2 json"),
     (r#"{"txn":{"appId":"","version":1}}"#, "2"),
-    (r#"{"txn":{"appId":"A","version":1,"extra":[{"x":null}]}}"#, "2"),
+    (
+        r#"{"txn":{"appId":"A","version":1,"extra":[{"x":null}]}}"#,
+        "2",
+    ),
     ("{\"txn\":{\"appId\":\"A\",\"version\":1}}\r", "2"),
     (r#" { "txn" : { "appId" : "A" , "version" : 1 } } "#, "2"),
     (r#"{"txn":{"appId":"A","version":1}}{}"#, "2 json"),
     (r#"{"txn":{"appId":"A","version":1},}"#, "2 json"),
-    (r#"{"protocol":{"minReaderVersion":1,"minWriterVersion":2,"readerFeatures":["a",null]}}"#, "2 field protocol readerFeatures"),
-    (r#"{"metaData":{"id":"t","partitionColumns":[],"schemaString":"","format":{"provider":1}}}"#, "2 field metaData format"),
+    (
+        r#"{"protocol":{"minReaderVersion":1,"minWriterVersion":2,"readerFeatures":["a",null]}}"#,
+        "2 field protocol readerFeatures",
+    ),
+    (
+        r#"{"metaData":{"id":"t","partitionColumns":[],"schemaString":"","format":{"provider":1}}}"#,
+        "2 field metaData format",
+    ),
 ];
 
 /// Each field of each kind: whether it is needed, a good value, and a value of a wrong type.
@@ -97,23 +132,53 @@ const FIELDS: [(&str, &str, bool, &str, &str); 30] = [
     ("commitInfo", "txnId", false, "\"u\"", "1"),
     ("protocol", "minReaderVersion", true, "3", "true"),
     ("protocol", "minWriterVersion", true, "7", "3.5"),
-    ("protocol", "readerFeatures", false, "[\"a\",\"b\"]", "\"a\""),
+    (
+        "protocol",
+        "readerFeatures",
+        false,
+        "[\"a\",\"b\"]",
+        "\"a\"",
+    ),
     ("protocol", "writerFeatures", false, "[]", "[1]"),
-    ("metaData", "configuration", false, "{\"a\":\"b\"}", "{\"a\":null}"),
+    (
+        "metaData",
+        "configuration",
+        false,
+        "{\"a\":\"b\"}",
+        "{\"a\":null}",
+    ),
     ("metaData", "createdTime", false, "-5", "\"5\""),
     ("metaData", "description", false, "\"d\"", "{}"),
-    ("metaData", "format", true, "{\"provider\":\"parquet\",\"options\":{}}", "{\"options\":{}}"),
+    (
+        "metaData",
+        "format",
+        true,
+        "{\"provider\":\"parquet\",\"options\":{}}",
+        "{\"options\":{}}",
+    ),
     ("metaData", "id", true, "\"\"", "[]"),
     ("metaData", "name", false, "\"n\"", "false"),
     ("metaData", "partitionColumns", true, "[\"p\"]", "[[]]"),
-    ("metaData", "schemaString", true, "\"{\\\"type\\\":\\\"struct\\\"}\"", "{}"),
+    (
+        "metaData",
+        "schemaString",
+        true,
+        "\"{\\\"type\\\":\\\"struct\\\"}\"",
+        "{}",
+    ),
     ("txn", "appId", true, "\"A\"", "1"),
     ("txn", "lastUpdated", false, "0", "\"0\""),
     ("txn", "version", true, "-1", "[1]"),
     ("remove", "dataChange", true, "false", "\"true\""),
     ("remove", "deletionTimestamp", false, "9", "1.5"),
     ("remove", "extendedFileMetadata", false, "true", "1"),
-    ("remove", "partitionValues", false, "{\"p\":null,\"q\":\"\"}", "{\"p\":1}"),
+    (
+        "remove",
+        "partitionValues",
+        false,
+        "{\"p\":null,\"q\":\"\"}",
+        "{\"p\":1}",
+    ),
     ("remove", "path", true, "\"a/b\"", "1"),
     ("remove", "size", false, "0", "\"0\""),
     ("add", "dataChange", true, "true", "0"),
@@ -121,7 +186,13 @@ const FIELDS: [(&str, &str, bool, &str, &str); 30] = [
     ("add", "partitionValues", true, "{\"p\":\"x\"}", "[]"),
     ("add", "path", true, "\"é\"", "[\"a\"]"),
     ("add", "size", true, "10", "{}"),
-    ("add", "stats", false, "\"{\\\"numRecords\\\":3}\"", "{\"numRecords\":3}"),
+    (
+        "add",
+        "stats",
+        false,
+        "\"{\\\"numRecords\\\":3}\"",
+        "{\"numRecords\":3}",
+    ),
     ("add", "tags", false, "{\"t\":null}", "{\"t\":true}"),
 ];
 
@@ -129,17 +200,52 @@ const FIELDS: [(&str, &str, bool, &str, &str); 30] = [
 const BOUNDS: [(&str, &str, &str, bool); 26] = [
     ("commitInfo", "inCommitTimestamp", "0", true),
     ("commitInfo", "inCommitTimestamp", "-1", false),
-    ("commitInfo", "inCommitTimestamp", "9223372036854775807", true),
-    ("commitInfo", "inCommitTimestamp", "9223372036854775808", false),
+    (
+        "commitInfo",
+        "inCommitTimestamp",
+        "9223372036854775807",
+        true,
+    ),
+    (
+        "commitInfo",
+        "inCommitTimestamp",
+        "9223372036854775808",
+        false,
+    ),
     ("protocol", "minReaderVersion", "-9223372036854775808", true),
-    ("protocol", "minReaderVersion", "-9223372036854775809", false),
-    ("protocol", "minWriterVersion", "18446744073709551616", false),
+    (
+        "protocol",
+        "minReaderVersion",
+        "-9223372036854775809",
+        false,
+    ),
+    (
+        "protocol",
+        "minWriterVersion",
+        "18446744073709551616",
+        false,
+    ),
     ("metaData", "createdTime", "9223372036854775807", true),
     ("metaData", "createdTime", "9223372036854775808", false),
-    ("metaData", "configuration", "{\"b\":\"1\",\"a\":\"2\",\"b\":\"3\"}", true),
+    (
+        "metaData",
+        "configuration",
+        "{\"b\":\"1\",\"a\":\"2\",\"b\":\"3\"}",
+        true,
+    ),
     ("metaData", "format", "{\"provider\":\"\"}", true),
-    ("metaData", "format", "{\"provider\":\"p\",\"options\":null}", true),
-    ("metaData", "format", "{\"provider\":\"p\",\"options\":{\"x\":null}}", false),
+    (
+        "metaData",
+        "format",
+        "{\"provider\":\"p\",\"options\":null}",
+        true,
+    ),
+    (
+        "metaData",
+        "format",
+        "{\"provider\":\"p\",\"options\":{\"x\":null}}",
+        false,
+    ),
     ("txn", "version", "9223372036854775807", true),
     ("txn", "version", "9223372036854775808", false),
     ("txn", "lastUpdated", "-1", true),
@@ -200,7 +306,11 @@ fn commit_texts(rt: HostRuntime) -> Result<(), Fail> {
         assert_eq!(rt; said(alloc, text.as_bytes())?.as_str(), want, "{line}");
     }
     assert_eq!(rt; said(alloc, b"\xff")?.as_str(), "1 utf8");
-    for (levels, closed, want) in [(126usize, true, "1"), (127, true, "2 json"), (200, false, "2 json")] {
+    for (levels, closed, want) in [
+        (126usize, true, "1"),
+        (127, true, "2 json"),
+        (200, false, "2 json"),
+    ] {
         let text = nested(alloc, levels, closed)?;
         assert_eq!(rt; said(alloc, text.as_bytes())?.as_str(), want, "{levels}");
     }
@@ -226,16 +336,29 @@ fn nested(alloc: Global, levels: usize, closed: bool) -> Result<String, AllocErr
 fn fields(rt: HostRuntime) -> Result<(), Fail> {
     let alloc = rt.alloc();
     for (kind, field, needed, good, wrong) in FIELDS {
-        for (value, is_good) in [(good, true), ("", !needed), ("null", !needed), (wrong, false)] {
+        for (value, is_good) in [
+            (good, true),
+            ("", !needed),
+            ("null", !needed),
+            (wrong, false),
+        ] {
             let text = text_with(alloc, kind, field, value)?;
             let want = wanted(alloc, kind, field, is_good)?;
-            assert_eq!(rt; said(alloc, text.as_bytes())?.as_str(), want.as_str(), "{text}");
+            assert_eq!(rt;
+                said(alloc, text.as_bytes())?.as_str(),
+                want.as_str(),
+                "{text}"
+            );
         }
     }
     for (kind, field, value, good) in BOUNDS {
         let text = text_with(alloc, kind, field, value)?;
         let want = wanted(alloc, kind, field, good)?;
-        assert_eq!(rt; said(alloc, text.as_bytes())?.as_str(), want.as_str(), "{text}");
+        assert_eq!(rt;
+            said(alloc, text.as_bytes())?.as_str(),
+            want.as_str(),
+            "{text}"
+        );
     }
     Ok(())
 }
@@ -277,13 +400,17 @@ fn canonical_texts(rt: HostRuntime) -> Result<(), Fail> {
 #[test]
 fn bodies(rt: HostRuntime) -> Result<(), Fail> {
     let alloc = rt.alloc();
-    let value = Value::from_str(alloc, r#"{"path":"a","dataChange":true,"size":1,"modificationTime":2,"partitionValues":{}}"#)?;
+    let value = Value::from_str(
+        alloc,
+        r#"{"path":"a","dataChange":true,"size":1,"modificationTime":2,"partitionValues":{}}"#,
+    )?;
     let action = read_body(alloc, Kind::Add, &value)?;
     assert!(rt; matches!(action, Action::Add(_)));
     let mut out = Vec::from_slice(alloc, b"-")?;
     push_body(alloc, &mut out, &action, false)?;
     push_body(alloc, &mut out, &action, true)?;
-    let want = r#"-{"modificationTime":2,"partitionValues":{},"path":"a","size":1}{"dataChange":true,"modificationTime":2,"partitionValues":{},"path":"a","size":1}"#;
+    let want =
+        r#"-{"modificationTime":2,"partitionValues":{},"path":"a","size":1}{"dataChange":true,"modificationTime":2,"partitionValues":{},"path":"a","size":1}"#;
     assert_eq!(rt; str::from_utf8(out.as_slice())?, want);
     match read_body(alloc, Kind::Remove, &value) {
         Ok(action) => assert!(rt; matches!(action, Action::Remove(_))),
