@@ -6,8 +6,6 @@ mod keys;
 pub mod laws;
 mod line;
 mod reading;
-#[cfg(test)]
-mod tests;
 mod valid;
 mod writing;
 
