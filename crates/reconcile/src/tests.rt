@@ -157,22 +157,50 @@ fn state_of(alloc: Global, commits: &[Vec<Action>]) -> Result<State, AllocError>
     Ok(state)
 }
 
+fn is_removed(state: &State) -> bool {
+    state.live("a").is_none()
+        && state.gone("a").map(|r| r.deleted) == Some(Some(1002))
+        && state.number("A") == Some(2)
+        && state.time() == Some(1002)
+}
+
+fn is_added_again(state: &State) -> bool {
+    state.live("a").map(|a| a.size) == Some(30)
+        && state.gone("a").is_none()
+        && state.number("A") == Some(3)
+        && state.time() == Some(1003)
+}
+
+fn four_commits(alloc: Global) -> Result<Vec<Vec<Action>>, AllocError> {
+    let mut commits = three_commits(alloc)?;
+    commits.push(written(alloc, 1003, 3, add(alloc, "a", 30)?)?)?;
+    Ok(commits)
+}
+
+fn removes(alloc: Global) -> Result<bool, AllocError> {
+    let commits = three_commits(alloc)?;
+    let state = state_of(alloc, commits.as_slice())?;
+    Ok(is_removed(&state) && same(&state, commits.as_slice()))
+}
+
+fn adds_again(alloc: Global) -> Result<bool, AllocError> {
+    let commits = four_commits(alloc)?;
+    let state = state_of(alloc, commits.as_slice())?;
+    Ok(is_added_again(&state) && same(&state, commits.as_slice()))
+}
+
+fn copies(alloc: Global) -> Result<bool, AllocError> {
+    let commits = four_commits(alloc)?;
+    let copy = state_of(alloc, commits.as_slice())?.copy()?;
+    Ok(same(&copy, commits.as_slice()) && copy.with_time(7).time() == Some(7))
+}
+
 #[test]
 fn remove_and_add_again(rt: HostRuntime) -> Result<(), Fail> {
     let alloc = rt.alloc();
-    let mut commits = three_commits(alloc)?;
-    let state = state_of(alloc, commits.as_slice())?;
-    assert!(rt; state.live("a").is_none());
-    assert_eq!(rt; state.gone("a").map(|r| r.deleted), Some(Some(1002)));
-    assert_eq!(rt; state.time(), Some(1002));
-    commits.push(written(alloc, 1003, 3, add(alloc, "a", 30)?)?)?;
-    let state = state_of(alloc, commits.as_slice())?;
-    assert_eq!(rt; state.live("a").map(|a| a.size), Some(30));
-    assert!(rt; state.gone("a").is_none());
-    assert_eq!(rt; state.number("A"), Some(3));
-    assert_eq!(rt; state.time(), Some(1003));
-    assert!(rt; same(&state.copy()?, commits.as_slice()));
-    assert_eq!(rt; state.with_time(7).time(), Some(7));
+    assert!(rt; removes(alloc)?);
+    assert!(rt; adds_again(alloc)?);
+    assert!(rt; copies(alloc)?);
     Ok(())
 }
 
