@@ -1,5 +1,5 @@
 -- The name that a text is read as.
-use Rattle.std.specs.Prelude.{ℕ, ◌+◌, ◌-◌, ◌*◌, ◌^◌, ◌==◌, ◌&&◌, nat_lt, List, [], Bool, Option, Some, None, if◌then◌else◌, length, take, drop, fold, codes, option_and_then}
+use Rattle.std.specs.Prelude.{ℕ, ◌+◌, ◌-◌, ◌*◌, ◌^◌, ◌==◌, ◌&&◌, nat_lt, List, Bool, Option, Some, None, if◌then◌else◌, length, take, drop, fold, codes, option_and_then}
 use Rattle.std.specs.List.{list_all}
 use Rattle.std.specs.Int.{from_be_bytes, w128}
 use Rattle.std.specs.Char.{is_ascii_digit}
@@ -77,7 +77,7 @@ parquet_in bs =
 unfoldable pub part_parquet_in : List ℕ → LogName
 part_parquet_in bs =
     if stands_at 20 (codes ".checkpoint.") bs && stands_at 42 (codes ".") bs && stands_at 53 (codes ".parquet") bs
-        && is_part_at 32 bs && is_part_at 43 bs
+    && is_part_at 32 bs && is_part_at 43 bs
     then with_version Parquet (version_in (take 20 bs))
     else Other
 

@@ -6,6 +6,7 @@ ghost use Rattle.log_names.specs.Texts.{name_text, IsNameOf};
 ghost use Rattle.log_names.specs.Reading.{name_of};
 
 mod buffer;
+pub mod laws;
 mod reading;
 mod writing;
 
@@ -50,3 +51,6 @@ impl LogName {
         }
     }
 }
+
+#[cfg(test)]
+mod tests;

@@ -3,12 +3,15 @@
 ghost use Rattle.std.specs.Prelude.{◌≡◌, ◌+◌, ◌≤◌, length, IsTrue};
 ghost use Rattle.std.specs.Char.{is_ascii_digit};
 ghost use Rattle.std.specs.List.{list_all};
+ghost use Rattle.std.specs.Str.{bytes_eq};
+ghost use Rattle.log_names.specs.Texts.{uuid_text};
 ghost use Rattle.log_names.specs.Reading.{name_of, stands_at, is_part_at, version_in, id_in, decimal_value, published_in, staged_in, checkpoint_in, whole_parquet_in, parquet_in, part_parquet_in};
 
 use crate::LogName;
 use uuid::Uuid;
 
 /// The name of a text in bytes: each form has a length of its own.
+#[tactic(auto, unfolding(crate::specs::Reading::name_of))]
 pub(crate) fn parse_bytes(bytes: &[u8]) -> LogName
     ensures { result ≡ name_of bytes.now }
 {
@@ -24,6 +27,7 @@ pub(crate) fn parse_bytes(bytes: &[u8]) -> LogName
 }
 
 /// The name of a text that is as long as a published commit's.
+#[tactic(auto, unfolding(crate::specs::Reading::published_in))]
 fn published(bytes: &[u8]) -> LogName
     requires { length bytes.now ≡ 25 }
     ensures { result ≡ published_in bytes.now }
@@ -38,6 +42,7 @@ fn published(bytes: &[u8]) -> LogName
 }
 
 /// The name of a text that is as long as a staged commit's.
+#[tactic(auto, unfolding(crate::specs::Reading::staged_in))]
 fn staged(bytes: &[u8]) -> LogName
     requires { length bytes.now ≡ 78 }
     ensures { result ≡ staged_in bytes.now }
@@ -55,6 +60,7 @@ fn staged(bytes: &[u8]) -> LogName
 }
 
 /// The name of a text that is as long as a checkpoint's.
+#[tactic(auto, unfolding(crate::specs::Reading::checkpoint_in))]
 fn checkpoint(bytes: &[u8]) -> LogName
     requires { length bytes.now ≡ 73 }
     ensures { result ≡ checkpoint_in bytes.now }
@@ -70,6 +76,7 @@ fn checkpoint(bytes: &[u8]) -> LogName
 }
 
 /// The name of a text that is as long as a whole Parquet checkpoint's.
+#[tactic(auto, unfolding(crate::specs::Reading::whole_parquet_in))]
 fn whole_parquet(bytes: &[u8]) -> LogName
     requires { length bytes.now ≡ 39 }
     ensures { result ≡ whole_parquet_in bytes.now }
@@ -84,6 +91,7 @@ fn whole_parquet(bytes: &[u8]) -> LogName
 }
 
 /// The name of a text that is as long as that of a Parquet checkpoint under an id.
+#[tactic(auto, unfolding(crate::specs::Reading::parquet_in))]
 fn parquet(bytes: &[u8]) -> LogName
     requires { length bytes.now ≡ 76 }
     ensures { result ≡ parquet_in bytes.now }
@@ -99,16 +107,15 @@ fn parquet(bytes: &[u8]) -> LogName
 }
 
 /// The name of a text that is as long as that of a part of a Parquet checkpoint.
+#[tactic(auto, unfolding(crate::specs::Reading::part_parquet_in))]
 fn part_parquet(bytes: &[u8]) -> LogName
     requires { length bytes.now ≡ 61 }
     ensures { result ≡ part_parquet_in bytes.now }
 {
     let framed = stands_at(bytes, 20, b".checkpoint.")
         && stands_at(bytes, 42, b".")
-        && stands_at(bytes, 53, b".parquet")
-        && is_part_at(bytes, 32)
-        && is_part_at(bytes, 43);
-    if !framed {
+        && stands_at(bytes, 53, b".parquet");
+    if !framed || !is_part_at(bytes, 32) || !is_part_at(bytes, 43) {
         return LogName::Other;
     }
     match version_in(&bytes[..20]) {
@@ -130,15 +137,23 @@ fn is_part_at(bytes: &[u8], from: usize) -> bool
     requires { from + 10 ≤ length bytes.now }
     ensures { result ≡ is_part_at from bytes.now }
 {
-    bytes[from..from + 10].iter().all(|b| b.is_ascii_digit())
+    are_digits(&bytes[from..from + 10])
+}
+
+/// Whether all the bytes are decimal digits.
+fn are_digits(bytes: &[u8]) -> bool
+    ensures { result ≡ list_all is_ascii_digit bytes.now }
+{
+    bytes.iter().all(|b| b.is_ascii_digit())
 }
 
 /// The version that 20 bytes write in decimal digits, where it fits in 64 bits.
+#[tactic(auto, unfolding(crate::specs::Reading::version_in, crate::specs::Reading::number_in))]
 fn version_in(digits: &[u8]) -> Option<u64>
     requires { length digits.now ≡ 20 }
     ensures { result ≡ version_in digits.now }
 {
-    if !digits.iter().all(|b| b.is_ascii_digit()) {
+    if !are_digits(digits) {
         return None;
     }
     let value = decimal_value(digits);
@@ -166,12 +181,22 @@ fn decimal_value(digits: &[u8]) -> u128
 fn id_in(bytes: &[u8]) -> Option<u128>
     ensures { result ≡ id_in bytes.now }
 {
-    let id = Uuid::try_parse_ascii(bytes).ok()?.as_u128();
-    let mut buffer = Uuid::encode_buffer();
-    let text = Uuid::from_u128(id).hyphenated().encode_lower(&mut buffer);
-    if text.as_bytes() == bytes {
+    let Ok(parsed) = Uuid::try_parse_ascii(bytes) else {
+        return None;
+    };
+    let id = parsed.as_u128();
+    if is_uuid_of(bytes, id) {
         Some(id)
     } else {
         None
     }
+}
+
+/// Whether the bytes are the UUID text of the id.
+fn is_uuid_of(bytes: &[u8], id: u128) -> bool
+    ensures { result ≡ bytes_eq (uuid_text id) bytes.now }
+{
+    let mut buffer = Uuid::encode_buffer();
+    let text = Uuid::from_u128(id).hyphenated().encode_lower(&mut buffer);
+    text.as_bytes() == bytes
 }

@@ -7,6 +7,7 @@ use crate::NameText;
 use uuid::Uuid;
 
 /// The text of the published commit of a version.
+#[tactic(auto, using(crate::proofs::Forms::text_lengths), unfolding(crate::specs::Texts::published_text))]
 pub(crate) fn published(version: u64) -> NameText
     ensures { result ≡ published_text version }
 {
@@ -17,6 +18,7 @@ pub(crate) fn published(version: u64) -> NameText
 }
 
 /// The text of a staged commit.
+#[tactic(auto, using(crate::proofs::Forms::text_lengths), unfolding(crate::specs::Texts::staged_text))]
 pub(crate) fn staged(version: u64, id: u128) -> NameText
     ensures { result ≡ staged_text version id }
 {
@@ -30,6 +32,7 @@ pub(crate) fn staged(version: u64, id: u128) -> NameText
 }
 
 /// The text of a checkpoint.
+#[tactic(auto, using(crate::proofs::Forms::text_lengths), unfolding(crate::specs::Texts::checkpoint_text))]
 pub(crate) fn checkpoint(version: u64, id: u128) -> NameText
     ensures { result ≡ checkpoint_text version id }
 {

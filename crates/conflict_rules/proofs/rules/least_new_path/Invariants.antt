@@ -1,0 +1,11 @@
+use Rattle.std.proofs.Common.{◌≡◌, drop, fold}
+use Rattle.std.specs.List.{filter_map}
+use Rattle.std.specs.Option.{option_copied}
+use Rattle.least_names.specs.Least.{least, lesser}
+use Rattle.reconcile.specs.Standing.{live_in}
+use Rattle.conflict_rules.specs.Conflict.{new_path}
+use Rattle.conflict_rules.proofs.rules.least_new_path.Given as goal
+
+abbrev pub invariant-loop-action : goal.invariant-loop-action
+invariant-loop-action l =
+    fold lesser (option_copied l.best) (filter_map (new_path) (drop l.action-index l.winner)) ≡ least (filter_map (new_path) l.winner)

@@ -1,0 +1,13 @@
+//! The conflicts of an intended write with the commits that were ratified before it.
+#![tactic(auto)]
+
+mod clash;
+mod conflict;
+mod files;
+mod intent;
+mod rules;
+
+pub use clash::{Clash, Lowest, Rule};
+pub use conflict::{first_conflict, first_conflict_of, the_lowest_is_named};
+pub use files::{Adds, Removes};
+pub use intent::{Change, Intent, Level, Reads};

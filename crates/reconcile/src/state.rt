@@ -1,0 +1,179 @@
+ghost use Rattle.std.specs.Prelude.{◌≡◌, List, [], ◌∷◌, ◌++◌, None, Some, IfOk, option_map, fold};
+ghost use Rattle.std.specs.Option.{option_copied};
+
+use crate::by_name::ByName;
+use action_types::{Action, Add, Meta, Protocol, Remove, Txn};
+use std::alloc::{AllocError, Global};
+
+/// What a list of commits says of a table (Delta protocol, "Action Reconciliation"): the live files, the
+/// tombstones, the latest txn of each application, the protocol, the metadata and the time.
+#[derive(Drop)]
+pub struct State {
+    live: ByName<Add>,
+    gone: ByName<Remove>,
+    txns: ByName<Txn>,
+    protocol: Option<Protocol>,
+    meta: Option<Meta>,
+    time: Option<i64>,
+}
+
+impl State {
+    ghost use Rattle.action_types.specs.declared.actions.Action.TheVariants as act;
+    ghost use Rattle.reconcile.specs.Replay.{Log};
+    ghost use Rattle.reconcile.specs.Standing.{StandsFor, HasTableOf, live_in, gone_in, txn_in, protocol_in, meta_in, time_in};
+    ghost use Rattle.reconcile.specs.Steps.{after, timed};
+
+    /// The state of no commits.
+    pub fn empty(alloc: Global) -> State
+        ensures { StandsFor result [] }
+    {
+        State {
+            live: ByName::new(alloc),
+            gone: ByName::new(alloc),
+            txns: ByName::new(alloc),
+            protocol: None,
+            meta: None,
+            time: None,
+        }
+    }
+
+    /// The state of the same commits and one more, which alone decides the time. Refused for want of memory
+    /// alone; the state is then given up.
+    pub fn apply(self, actions: &[Action]) -> Result<State, AllocError>
+        ensures stands { (log : Log) → StandsFor self log → IfOk result (λ s. StandsFor s (log ++ actions.now ∷ [])) }
+        ensures on_table { (log : Log) → HasTableOf self log → IfOk result (λ s. StandsFor s (log ++ actions.now ∷ [])) }
+    {
+        self.untimed().with_actions(actions)
+    }
+
+    fn untimed(self) -> State
+        ensures { result ≡ timed self None }
+    {
+        let mut state = self;
+        state.time = None;
+        state
+    }
+
+    fn with_actions(self, actions: &[Action]) -> Result<State, AllocError>
+        ensures { IfOk result (λ s. s ≡ fold after self actions.now) }
+    {
+        let mut state = self;
+        for action in actions {
+            state = state.with_action(action)?;
+        }
+        Ok(state)
+    }
+
+    fn with_action(self, action: &Action) -> Result<State, AllocError>
+        ensures { IfOk result (λ s. s ≡ after self action.now) }
+    {
+        match action {
+            Action::Info(info) => Ok(self.with_time(info.time)),
+            Action::Protocol(protocol) => self.with_protocol(protocol),
+            Action::Meta(meta) => self.with_meta(meta),
+            Action::Txn(txn) => self.with_txn(txn),
+            Action::Remove(remove) => self.with_tombstone(remove),
+            Action::Add(add) => self.with_file(add),
+        }
+    }
+
+    /// The same state at this time, in milliseconds since 1970 UTC.
+    pub fn with_time(self, time: i64) -> State
+        ensures { result ≡ timed self (Some time) }
+    {
+        let mut state = self;
+        state.time = Some(time);
+        state
+    }
+
+    fn with_protocol(self, protocol: &Protocol) -> Result<State, AllocError>
+        ensures { IfOk result (λ s. s ≡ record self { protocol = Some protocol.now }) }
+    {
+        let mut state = self;
+        state.protocol = Some(protocol.copy()?);
+        Ok(state)
+    }
+
+    fn with_meta(self, meta: &Meta) -> Result<State, AllocError>
+        ensures { IfOk result (λ s. s ≡ record self { meta = Some meta.now }) }
+    {
+        let mut state = self;
+        state.meta = Some(meta.copy()?);
+        Ok(state)
+    }
+
+    fn with_txn(self, txn: &Txn) -> Result<State, AllocError>
+        ensures { IfOk result (λ s. s ≡ after self (act.Txn txn.now)) }
+    {
+        let mut state = self;
+        state.txns.insert(txn.app.copy()?, txn.copy()?)?;
+        Ok(state)
+    }
+
+    fn with_tombstone(self, remove: &Remove) -> Result<State, AllocError>
+        ensures { IfOk result (λ s. s ≡ after self (act.Remove remove.now)) }
+    {
+        let mut state = self;
+        let mut kept = remove.copy()?;
+        kept.change = false;
+        state.live.remove(remove.path.as_str());
+        state.gone.insert(remove.path.copy()?, kept)?;
+        Ok(state)
+    }
+
+    fn with_file(self, add: &Add) -> Result<State, AllocError>
+        ensures { IfOk result (λ s. s ≡ after self (act.Add add.now)) }
+    {
+        let mut state = self;
+        let mut kept = add.copy()?;
+        kept.change = false;
+        state.gone.remove(add.path.as_str());
+        state.live.insert(add.path.copy()?, kept)?;
+        Ok(state)
+    }
+
+    /// The live file of a path, its `change` false.
+    pub fn live(&self, path: &str) -> Option<&Add>
+        ensures { option_copied result ≡ live_in self.now path.now }
+    {
+        self.live.get(path)
+    }
+
+    /// The tombstone of a path, its `change` false.
+    pub fn gone(&self, path: &str) -> Option<&Remove>
+        ensures { option_copied result ≡ gone_in self.now path.now }
+    {
+        self.gone.get(path)
+    }
+
+    /// The number that an application wrote last.
+    pub fn number(&self, app: &str) -> Option<i64>
+        ensures { result ≡ option_map (λ t. t.number) (txn_in self.now app.now) }
+    {
+        match self.txns.get(app) {
+            Some(txn) => Some(txn.number),
+            None => None,
+        }
+    }
+
+    /// The protocol of the table.
+    pub fn protocol(&self) -> Option<&Protocol>
+        ensures { option_copied result ≡ protocol_in self.now }
+    {
+        self.protocol.as_ref()
+    }
+
+    /// The metadata of the table.
+    pub fn meta(&self) -> Option<&Meta>
+        ensures { option_copied result ≡ meta_in self.now }
+    {
+        self.meta.as_ref()
+    }
+
+    /// The in-commit timestamp of the last commit, in milliseconds since 1970 UTC.
+    pub fn time(&self) -> Option<i64>
+        ensures { result ≡ time_in self.now }
+    {
+        self.time
+    }
+}

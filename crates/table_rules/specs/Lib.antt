@@ -1,0 +1,4 @@
+pub mod Broken
+pub mod Features
+pub mod Texts
+pub mod Seen
