@@ -13,7 +13,7 @@ use Rattle.reconcile.specs.Replay.{Log, or_else, last_said, in_log, last_commit,
 use Rattle.reconcile.specs.Standing.{live_in, gone_in, txn_in, protocol_in, meta_in, time_in, HasTableOf, StandsFor}
 use Rattle.reconcile.specs.Steps.{after, timed}
 use Rattle.reconcile.specs.declared.state.State.{State}
-use Rattle.reconcile.proofs.Last.{or_else-none, or_else_assoc, last_said-append, last_commit-push}
+use Rattle.reconcile.proofs.Last.{or_else-none, or_else_assoc, newer, last_said-append, last_commit-push}
 
 -- the look-ups of a state, by what was last said of each key
 record Holds (s : State) (file : Key → Option Mention) (txns : List ℕ → Option Txn) (p : Option Protocol) (m : Option Meta) : Type 0 where
@@ -28,10 +28,6 @@ decided : {B : Type 0} (f : Mention → Option B) (here : Bool) (new : Mention) 
     → cond here (f new) (option_and_then f old) ≡ option_and_then f (or_else (cond here (Some new) None) old)
 decided f true new old = refl
 decided f false new old = refl
-
-newer : {B : Type 0} (here : Bool) (new : B) (old : Option B) → cond here (Some new) old ≡ or_else (cond here (Some new) None) old
-newer true new old = refl
-newer false new old = refl
 
 Holds-after : (s : State) (a : Action) (file : Key → Option Mention) (txns : List ℕ → Option Txn) (p : Option Protocol) (m : Option Meta)
     → Holds s file txns p m
@@ -81,16 +77,16 @@ Holds-same s file file' txns txns' p p' m m' e f g i h = record {
 Holds-fold : (actions : List Action) (s : State) (file : Key → Option Mention) (txns : List ℕ → Option Txn) (p : Option Protocol) (m : Option Meta)
     → Holds s file txns p m
     → Holds (fold after s actions) (λ key. or_else (last_said (mention key) actions) (file key)) (λ app. or_else (last_said (txn_said app) actions) (txns app))
-      (or_else (last_said protocol_said actions) p) (or_else (last_said meta_said actions) m)
+    (or_else (last_said protocol_said actions) p) (or_else (last_said meta_said actions) m)
 Holds-fold [] s file txns p m h = record { live = h.live; gone = h.gone; txn = h.txn; protocol = h.protocol; meta = h.meta }
 Holds-fold (a ∷ actions) s file txns p m h =
     Holds-same (fold after (after s a) actions) _ _ _ _ _ _ _ _
-      (λ key. sym (or_else_assoc (last_said (mention key) actions) (mention key a) (file key)))
-      (λ app. sym (or_else_assoc (last_said (txn_said app) actions) (txn_said app a) (txns app)))
-      (sym (or_else_assoc (last_said protocol_said actions) (protocol_said a) p))
-      (sym (or_else_assoc (last_said meta_said actions) (meta_said a) m))
-      (Holds-fold actions (after s a) (λ key. or_else (mention key a) (file key)) (λ app. or_else (txn_said app a) (txns app)) (or_else (protocol_said a) p) (or_else (meta_said a) m)
-        (Holds-after s a file txns p m h))
+    (λ key. sym (or_else_assoc (last_said (mention key) actions) (mention key a) (file key)))
+    (λ app. sym (or_else_assoc (last_said (txn_said app) actions) (txn_said app a) (txns app)))
+    (sym (or_else_assoc (last_said protocol_said actions) (protocol_said a) p))
+    (sym (or_else_assoc (last_said meta_said actions) (meta_said a) m))
+    (Holds-fold actions (after s a) (λ key. or_else (mention key a) (file key)) (λ app. or_else (txn_said app a) (txns app)) (or_else (protocol_said a) p) (or_else (meta_said a) m)
+    (Holds-after s a file txns p m h))
 
 time-after : (s : State) (a : Action) → time_in (after s a) ≡ or_else (time_said a) (time_in s)
 time-after s (act.Info info) = refl
@@ -114,7 +110,7 @@ pub HasTableOf-push : (s : State) (log : Log) (commit : List Action) → HasTabl
 unfolding live_at gone_at txn_at protocol_of_log meta_of_log
 HasTableOf-push s log commit h =
     let start : Holds (timed s None) (λ key. in_log (mention key) log) (λ app. in_log (txn_said app) log) (in_log protocol_said log) (in_log meta_said log)
-          = record { live = h.live; gone = h.gone; txn = h.txn; protocol = h.protocol; meta = h.meta } in
+    = record { live = h.live; gone = h.gone; txn = h.txn; protocol = h.protocol; meta = h.meta } in
     let end = Holds-fold commit (timed s None) (λ key. in_log (mention key) log) (λ app. in_log (txn_said app) log) (in_log protocol_said log) (in_log meta_said log) start in
     record {
       live = λ key. end.live key ∙ ap (option_and_then as_added) (sym (in_log-push (mention key) log commit));

@@ -1,15 +1,24 @@
-ghost use Rattle.std.specs.Prelude.{◌≡◌, OnOk, OnErr, IfOk, IfNone, IfSome};
+ghost use Rattle.std.specs.Prelude.{◌≡◌, OnOk, OnErr, IfOk};
 ghost use Rattle.std.specs.Option.{option_copied};
 ghost use Rattle.std.specs.FinMap as fin;
 
 use action_types::Name;
 use std::alloc::{AllocError, Global};
 use std::collections::BTreeMap;
+use std::collections::btree_map::Values;
 use std::marker::Model;
 
-// Values by name, in byte order of the names. A contract sees a finite map from the names' bytes.
+/// A value of which an equal one can be made.
+pub(crate) trait EqualCopy {
+    /// An equal value; refused for want of memory alone.
+    fn equal_copy(&self) -> Result<Self, AllocError>
+        ensures { IfOk result (λ n. n ≡ self.now) };
+}
+
+/// Values by name, in byte order of the names. A contract sees a finite map from the names' bytes.
 #[derive(Drop)]
 pub(crate) struct ByName<V> {
+    alloc: Global,
     entries: BTreeMap<String, V>,
 }
 
@@ -27,20 +36,25 @@ impl<V> Model for ByName<V> {
 }
 
 impl<V: Drop> ByName<V> {
+    /// No values.
     pub(crate) fn new(alloc: Global) -> ByName<V>
         ensures { result ≡ fin.empty }
     {
         ByName {
+            alloc,
             entries: BTreeMap::new(alloc),
         }
     }
 
+    /// The value of a name.
     pub(crate) fn get(&self, name: &str) -> Option<&V>
         ensures { option_copied result ≡ fin.get self.now name.now }
     {
         self.entries.get(name)
     }
 
+    /// Gives the name this value in place of an older one. After a refusal, for want of memory alone, the
+    /// map is unchanged.
     pub(crate) fn insert(&mut self, name: Name, value: V) -> Result<(), AllocError>
         ensures ok { OnOk result (self.new ≡ fin.insert self.old name value) }
         ensures err { OnErr result (self.new ≡ self.old) }
@@ -49,9 +63,31 @@ impl<V: Drop> ByName<V> {
         Ok(())
     }
 
+    /// Takes the value of a name away, if there is one.
     pub(crate) fn remove(&mut self, name: &str)
         ensures { self.new ≡ fin.remove self.old name.now }
     {
         let _ = self.entries.remove(name);
+    }
+
+    /// The values in byte order of their names.
+    pub(crate) fn values(&self) -> Values<'_, String, V>
+        ensures { result ≡ fin.values self.now }
+    {
+        self.entries.values()
+    }
+}
+
+impl<V: EqualCopy + Drop> ByName<V> {
+    /// An equal map; refused for want of memory alone.
+    pub(crate) fn copy(&self) -> Result<ByName<V>, AllocError>
+        ensures { IfOk result (λ n. n ≡ self.now) }
+    {
+        let mut copy = ByName::new(self.alloc);
+        for (name, value) in self.entries.iter().rev() {
+            let name = Name::from_str(self.alloc, name.as_str())?;
+            copy.insert(name, value.equal_copy()?)?;
+        }
+        Ok(copy)
     }
 }

@@ -1,7 +1,8 @@
 ghost use Rattle.std.specs.Prelude.{◌≡◌, List, [], ◌∷◌, ◌++◌, None, Some, IfOk, option_map, fold};
 ghost use Rattle.std.specs.Option.{option_copied};
 
-use crate::by_name::ByName;
+use crate::by_name::{ByName, EqualCopy};
+use crate::walks::{FileWalk, GoneWalk, TxnWalk};
 use action_types::{Action, Add, Meta, Protocol, Remove, Txn};
 use std::alloc::{AllocError, Global};
 
@@ -20,8 +21,9 @@ pub struct State {
 impl State {
     ghost use Rattle.action_types.specs.declared.actions.Action.TheVariants as act;
     ghost use Rattle.reconcile.specs.Replay.{Log};
-    ghost use Rattle.reconcile.specs.Standing.{StandsFor, HasTableOf, live_in, gone_in, txn_in, protocol_in, meta_in, time_in};
+    ghost use Rattle.reconcile.specs.Standing.{StandsFor, HasTableOf, live_in, gone_in, txn_in, protocol_in, meta_in, time_in, files_in, tombstones_in, txns_in};
     ghost use Rattle.reconcile.specs.Steps.{after, timed};
+    ghost use Rattle.reconcile.specs.Walks.{files_of, tombstones_of, txns_of};
 
     /// The state of no commits.
     pub fn empty(alloc: Global) -> State
@@ -175,5 +177,92 @@ impl State {
         ensures { result ≡ time_in self.now }
     {
         self.time
+    }
+
+    /// The live files in byte order of their keys, each with its `change` false.
+    pub fn files(&self) -> FileWalk<'_>
+        ensures value { result ≡ files_in self.now }
+        ensures of_log { (log : Log) → HasTableOf self.now log → result ≡ files_of log }
+    {
+        FileWalk {
+            rest: self.live.values(),
+        }
+    }
+
+    /// The tombstones in byte order of their keys, each with its `change` false.
+    pub fn tombstones(&self) -> GoneWalk<'_>
+        ensures value { result ≡ tombstones_in self.now }
+        ensures of_log { (log : Log) → HasTableOf self.now log → result ≡ tombstones_of log }
+    {
+        GoneWalk {
+            rest: self.gone.values(),
+        }
+    }
+
+    /// The latest txns in byte order of their applications.
+    pub fn txns(&self) -> TxnWalk<'_>
+        ensures value { result ≡ txns_in self.now }
+        ensures of_log { (log : Log) → HasTableOf self.now log → result ≡ txns_of log }
+    {
+        TxnWalk {
+            rest: self.txns.values(),
+        }
+    }
+
+    /// An equal state; refused for want of memory alone.
+    pub fn copy(&self) -> Result<State, AllocError>
+        ensures { IfOk result (λ s. s ≡ self.now) }
+    {
+        let live = self.live.copy()?;
+        let gone = self.gone.copy()?;
+        let txns = self.txns.copy()?;
+        let protocol = copy_protocol(&self.protocol)?;
+        let meta = copy_meta(&self.meta)?;
+        Ok(State {
+            live,
+            gone,
+            txns,
+            protocol,
+            meta,
+            time: self.time,
+        })
+    }
+}
+
+/// An equal protocol, or none; refused for want of memory alone.
+fn copy_protocol(protocol: &Option<Protocol>) -> Result<Option<Protocol>, AllocError>
+    ensures { IfOk result (λ n. n ≡ protocol.now) }
+{
+    match protocol {
+        None => Ok(None),
+        Some(protocol) => Ok(Some(protocol.copy()?)),
+    }
+}
+
+/// Equal metadata, or none; refused for want of memory alone.
+fn copy_meta(meta: &Option<Meta>) -> Result<Option<Meta>, AllocError>
+    ensures { IfOk result (λ n. n ≡ meta.now) }
+{
+    match meta {
+        None => Ok(None),
+        Some(meta) => Ok(Some(meta.copy()?)),
+    }
+}
+
+impl EqualCopy for Add {
+    fn equal_copy(&self) -> Result<Add, AllocError> {
+        self.copy()
+    }
+}
+
+impl EqualCopy for Remove {
+    fn equal_copy(&self) -> Result<Remove, AllocError> {
+        self.copy()
+    }
+}
+
+impl EqualCopy for Txn {
+    fn equal_copy(&self) -> Result<Txn, AllocError> {
+        self.copy()
     }
 }

@@ -1,0 +1,156 @@
+-- The walks of a log list its replay, and those of a state that stands for it are the same lists.
+use Rattle.std.proofs.Common.{◌≡◌, ℕ, Bool, true, false, cond, List, refl, ap, sym, subst, ◌∙◌}
+use Rattle.std.specs.Prelude.{Option, Some, None, option_and_then, IfSome}
+use Rattle.std.specs.Cmp.Lexicographic.{nat_list_cmp_total}
+use Rattle.std.specs.List.{filter_map, flat_map, list_any}
+use Rattle.std.specs.FinMap as fin
+use Rattle.action_types.specs.declared.actions.Action.{Action}
+use Rattle.action_types.specs.declared.actions.Action.TheVariants as act
+use Rattle.action_types.specs.declared.actions.Add.{Add}
+use Rattle.action_types.specs.declared.actions.Remove.{Remove}
+use Rattle.action_types.specs.declared.actions.Txn.{Txn}
+use Rattle.reconcile.specs.Keys.{Key, key_of, key_of_remove, key_cmp, same_key, name_cmp, same_app}
+use Rattle.reconcile.specs.Replay.{Log, last_said, in_log, Mention, added, removed, mention, as_added, as_removed, live_at, gone_at, txn_said, txn_at, protocol_of_log, meta_of_log, time_of_log}
+use Rattle.reconcile.specs.Standing.{HasTableOf, StandsFor, files_in, tombstones_in, txns_in}
+use Rattle.reconcile.specs.Walks.{Lists, file_named, app_named, files_of, tombstones_of, txns_of}
+use Rattle.reconcile.specs.declared.state.State.{State}
+use Rattle.reconcile.proofs.Named.{exact_names}
+use Rattle.reconcile.proofs.InOrder.{hits, log_none, said_so, equal, values-in_order, Lists-in_order}
+
+-- only equal keys name one file
+exact_keys : fin.IsAntisymmetric key_cmp
+exact_keys = exact_names
+
+-- ---- an action that does not name a key says nothing of it
+
+silent_file : (key : Key) (a : Action) → hits (same_key key) (file_named a) ≡ false → mention key a ≡ None
+silent_file key (act.Info info) e = refl
+silent_file key (act.Protocol protocol) e = refl
+silent_file key (act.Meta meta) e = refl
+silent_file key (act.Txn txn) e = refl
+silent_file key (act.Remove remove) e = ap (λ b. cond b (Some (removed (record remove { change = false }))) None) e
+silent_file key (act.Add add) e = ap (λ b. cond b (Some (added (record add { change = false }))) None) e
+
+silent_app : (app : List ℕ) (a : Action) → hits (same_app app) (app_named a) ≡ false → txn_said app a ≡ None
+silent_app app (act.Info info) e = refl
+silent_app app (act.Protocol protocol) e = refl
+silent_app app (act.Meta meta) e = refl
+silent_app app (act.Txn txn) e = ap (λ b. cond b (Some txn) None) e
+silent_app app (act.Remove remove) e = refl
+silent_app app (act.Add add) e = refl
+
+unnamed_file : (log : Log) (key : Key) → list_any (same_key key) (flat_map (filter_map file_named) log) ≡ false → in_log (mention key) log ≡ None
+unnamed_file log key e = log_none (same_key key) file_named (mention key) (silent_file key) log e
+
+unnamed_live : (log : Log) (key : Key) → list_any (same_key key) (flat_map (filter_map file_named) log) ≡ false → live_at key log ≡ None
+unfolding live_at
+unnamed_live log key e = ap (option_and_then as_added) (unnamed_file log key e)
+
+unnamed_gone : (log : Log) (key : Key) → list_any (same_key key) (flat_map (filter_map file_named) log) ≡ false → gone_at key log ≡ None
+unfolding gone_at
+unnamed_gone log key e = ap (option_and_then as_removed) (unnamed_file log key e)
+
+unnamed_txn : (log : Log) (app : List ℕ) → list_any (same_app app) (flat_map (filter_map app_named) log) ≡ false → txn_at app log ≡ None
+unfolding txn_at
+unnamed_txn log app e = log_none (same_app app) app_named (txn_said app) (silent_app app) log e
+
+-- ---- what is said of a key has that key
+
+abbrev IsOf : Key → Mention → Type 0
+IsOf key (added add) = key_of add ≡ key
+IsOf key (removed remove) = key_of_remove remove ≡ key
+
+of_key : (key : Key) (b : Bool) (k : Key) (m : Mention) → same_key key k ≡ b → (k ≡ key → IsOf key m) → IfSome (cond b (Some m) None) (IsOf key)
+of_key key true k m e is = is (sym (exact_keys key k (equal (key_cmp key k) e)))
+of_key key false k m e is = tt
+
+mention_own : (key : Key) (a : Action) → IfSome (mention key a) (IsOf key)
+mention_own key (act.Info info) = tt
+mention_own key (act.Protocol protocol) = tt
+mention_own key (act.Meta meta) = tt
+mention_own key (act.Txn txn) = tt
+mention_own key (act.Remove remove) = of_key key (same_key key (key_of_remove remove)) (key_of_remove remove) (removed (record remove { change = false })) refl (λ e. e)
+mention_own key (act.Add add) = of_key key (same_key key (key_of add)) (key_of add) (added (record add { change = false })) refl (λ e. e)
+
+of_app : (app : List ℕ) (b : Bool) (txn : Txn) → same_app app txn.app ≡ b → IfSome (cond b (Some txn) None) (λ t. t.app ≡ app)
+of_app app true txn e = sym (exact_names app txn.app (equal (name_cmp app txn.app) e))
+of_app app false txn e = tt
+
+txn_own : (app : List ℕ) (a : Action) → IfSome (txn_said app a) (λ t. t.app ≡ app)
+txn_own app (act.Info info) = tt
+txn_own app (act.Protocol protocol) = tt
+txn_own app (act.Meta meta) = tt
+txn_own app (act.Txn txn) = of_app app (same_app app txn.app) txn refl
+txn_own app (act.Remove remove) = tt
+txn_own app (act.Add add) = tt
+
+log_own : (key : Key) (log : Log) → IfSome (in_log (mention key) log) (IsOf key)
+log_own key log = said_so (IsOf key) (last_said (mention key)) (λ c. said_so (IsOf key) (mention key) (mention_own key) c) log
+
+live_own : (key : Key) (o : Option Mention) (add : Add) → IfSome o (IsOf key) → option_and_then as_added o ≡ Some add → key_of add ≡ key
+live_own key None add h e = cc
+live_own key (Some (added a)) add h e = let same : a ≡ add = cc in ap key_of (sym same) ∙ h
+live_own key (Some (removed r)) add h e = cc
+
+gone_own : (key : Key) (o : Option Mention) (remove : Remove) → IfSome o (IsOf key) → option_and_then as_removed o ≡ Some remove → key_of_remove remove ≡ key
+gone_own key None remove h e = cc
+gone_own key (Some (added a)) remove h e = cc
+gone_own key (Some (removed r)) remove h e = let same : r ≡ remove = cc in ap key_of_remove (sym same) ∙ h
+
+pub live_at-key : (log : Log) (key : Key) (add : Add) → live_at key log ≡ Some add → key_of add ≡ key
+unfolding live_at
+live_at-key log key add e = live_own key (in_log (mention key) log) add (log_own key log) e
+
+pub gone_at-key : (log : Log) (key : Key) (remove : Remove) → gone_at key log ≡ Some remove → key_of_remove remove ≡ key
+unfolding gone_at
+gone_at-key log key remove e = gone_own key (in_log (mention key) log) remove (log_own key log) e
+
+txn_is : (app : List ℕ) (o : Option Txn) (txn : Txn) → IfSome o (λ t. t.app ≡ app) → o ≡ Some txn → txn.app ≡ app
+txn_is app None txn h e = cc
+txn_is app (Some t) txn h e = let same : t ≡ txn = cc in ap (λ t. t.app) (sym same) ∙ h
+
+pub txn_at-key : (log : Log) (app : List ℕ) (txn : Txn) → txn_at app log ≡ Some txn → txn.app ≡ app
+unfolding txn_at
+txn_at-key log app txn e = txn_is app (in_log (txn_said app) log) txn (said_so (λ t. t.app ≡ app) (last_said (txn_said app)) (λ c. said_so (λ t. t.app ≡ app) (txn_said app) (txn_own app) c) log) e
+
+-- ---- the walks
+
+pub files_of-lists : (log : Log) → Lists key_cmp key_of (files_of log) (λ key. live_at key log)
+unfolding files_of
+files_of-lists log = Lists-in_order nat_list_cmp_total exact_keys key_of (λ key. live_at key log) (flat_map (filter_map file_named) log) (unnamed_live log) (live_at-key log)
+
+pub tombstones_of-lists : (log : Log) → Lists key_cmp key_of_remove (tombstones_of log) (λ key. gone_at key log)
+unfolding tombstones_of
+tombstones_of-lists log = Lists-in_order nat_list_cmp_total exact_keys key_of_remove (λ key. gone_at key log) (flat_map (filter_map file_named) log) (unnamed_gone log) (gone_at-key log)
+
+pub txns_of-lists : (log : Log) → Lists name_cmp (λ t. t.app) (txns_of log) (λ app. txn_at app log)
+unfolding txns_of
+txns_of-lists log = Lists-in_order nat_list_cmp_total exact_names (λ t. t.app) (λ app. txn_at app log) (flat_map (filter_map app_named) log) (unnamed_txn log) (txn_at-key log)
+
+pub files_in-log : (s : State) (log : Log) → HasTableOf s log → files_in s ≡ files_of log
+unfolding files_of
+files_in-log s log h = values-in_order nat_list_cmp_total exact_keys (λ key. live_at key log) (flat_map (filter_map file_named) log) (unnamed_live log) s.live h.live
+
+pub tombstones_in-log : (s : State) (log : Log) → HasTableOf s log → tombstones_in s ≡ tombstones_of log
+unfolding tombstones_of
+tombstones_in-log s log h = values-in_order nat_list_cmp_total exact_keys (λ key. gone_at key log) (flat_map (filter_map file_named) log) (unnamed_gone log) s.gone h.gone
+
+pub txns_in-log : (s : State) (log : Log) → HasTableOf s log → txns_in s ≡ txns_of log
+unfolding txns_of
+txns_in-log s log h = values-in_order nat_list_cmp_total exact_names (λ app. txn_at app log) (flat_map (filter_map app_named) log) (unnamed_txn log) s.txns h.txn
+
+-- ---- one state
+
+pub one_state : (s t : State) (log : Log) → StandsFor s log → StandsFor t log → s ≡ t
+one_state s t log h g =
+    let live = fin.same_map nat_list_cmp_total exact_keys s.live t.live (λ q. h.table.live q ∙ sym (g.table.live q)) in
+    let gone = fin.same_map nat_list_cmp_total exact_keys s.gone t.gone (λ q. h.table.gone q ∙ sym (g.table.gone q)) in
+    let txns = fin.same_map nat_list_cmp_total exact_names s.txns t.txns (λ q. h.table.txn q ∙ sym (g.table.txn q)) in
+    λ i. record {
+      live = live i;
+      gone = gone i;
+      txns = txns i;
+      protocol = (h.table.protocol ∙ sym g.table.protocol) i;
+      meta = (h.table.meta ∙ sym g.table.meta) i;
+      time = (h.time ∙ sym g.time) i;
+    }
