@@ -14,6 +14,7 @@ use Rattle.action_types.specs.declared.actions.Format.{Format}
 use Rattle.action_fields.specs.declared.kind.Kind.{Kind}
 use Rattle.action_fields.specs.declared.kind.Kind.TheVariants as kind
 use Rattle.action_fields.specs.Bodies.{or_fault, required, optional, or_empty, if_given, info, protocol, meta, txn, remove, add, fields_of, body_of}
+use Rattle.action_fields.specs.Canonical.{kind_of}
 use Rattle.action_fields.specs.Gives.{◌>>=◌}
 use Rattle.action_fields.specs.Ordered.{names_of, is_below, are_rising, is_ordered, members_are_ordered}
 use Rattle.action_fields.specs.Types.{Pair, unless_null, given, text, integer, if_from_zero, from_zero, flag, path, if_not_empty, names, value_in, pairs_in, pairs, options, format}
@@ -299,3 +300,20 @@ if_object false r h = record { kept = tt }
 pub valid-body_of : (k : Kind) (body : Data) → is_ordered body ≡ true → IfOk (body_of k body) (λ a. has_valid_fields a ≡ true)
 unfolding body_of
 valid-body_of k body h = (if_object (is_some (as_object body)) (fields_of k body) (fields-keep k body h)).kept
+
+-- ---- the kind of an action that is read
+
+abbrev OfKind : Kind → Action → Type 0
+OfKind k a = kind_of a ≡ k
+
+info-kind : (body : Data) → Keeps (OfKind kind.Info) (info body)
+unfolding info
+info-kind body = then_any (required from_zero (codes "inCommitTimestamp") body) (λ time. then_any (optional text (codes "txnId") body) (λ txn_id. done (action.Info (record { time = time; txn_id = txn_id })) refl))
+
+if_info : (b : Bool) (r : Result Action (List ℕ)) → Keeps (OfKind kind.Info) r → Keeps (OfKind kind.Info) (if b then r else Err [])
+if_info true r h = h
+if_info false r h = record { kept = tt }
+
+pub kind-body_of_info : (body : Data) → IfOk (body_of kind.Info body) (λ a. kind_of a ≡ kind.Info)
+unfolding body_of
+kind-body_of_info body = (if_info (is_some (as_object body)) (info body) (info-kind body)).kept

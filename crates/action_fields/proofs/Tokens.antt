@@ -1,5 +1,6 @@
 -- The tokens of a body are those of its fields, one after another.
-use Rattle.std.proofs.Common.{◌≡◌, List, [], ◌∷◌, ◌++◌, Some, None, refl, sym, ap, ap₂, ◌∙◌, append_assoc, append-nil, Ok, Err, OnOk}
+use Rattle.std.proofs.Common.{◌≡◌, List, [], ◌∷◌, ◌++◌, Some, None, refl, sym, ap, ap₂, ◌∙◌, append_assoc, append-nil, Ok, Err, OnOk, true}
+use Rattle.std.specs.Str.{is_utf8}
 use Rattle.json.specs.Print.{print}
 use Rattle.json.specs.Token.{Token}
 use Rattle.serde_json.specs.Written.{compact_text}
@@ -39,3 +40,9 @@ pub printed : {E : Type 0} (r : Result (Unit {0}) E) (old new : Written) (d : Da
 printed (Ok u) old new d bytes empty p is =
     is ∙ ap₂ (λ (a b : List ℕ). a ++ b) p.before (ap print (p.ok ∙ ap (λ l. l ++ data_tokens d) empty) ∙ print-outline d)
 printed (Err e) old new d bytes empty p is = tt
+
+-- and it is UTF-8
+pub printed_utf8 : {E : Type 0} (r : Result (Unit {0}) E) (old new : Written) (d : Data)
+    → old.tokens ≡ [] → Puts r old new (data_tokens d) → OnOk r (is_utf8 (print new.tokens) ≡ true) → OnOk r (is_utf8 (compact_text d) ≡ true)
+printed_utf8 (Ok u) old new d empty p is = ap is_utf8 (sym (print-outline d) ∙ sym (ap print (p.ok ∙ ap (λ l. l ++ data_tokens d) empty))) ∙ is
+printed_utf8 (Err e) old new d empty p is = tt

@@ -1,5 +1,6 @@
 //! Writing the bodies and the lines of actions, canonically.
-ghost use Rattle.std.specs.Prelude.{◌≡◌, ◌++◌, OnErr, OnOk, drop, length, take};
+ghost use Rattle.std.specs.Prelude.{◌≡◌, ◌++◌, OnErr, OnOk, drop, take, true};
+ghost use Rattle.std.specs.Str.{is_utf8};
 ghost use Rattle.json.specs.Print.{print};
 ghost use Rattle.action_types.specs.declared.actions.Action.TheVariants as action;
 ghost use Rattle.action_fields.specs.Canonical.{action_data, action_fields, add_fields, body_data, canonical_body, canonical_line, info_fields, kind_of, meta_fields, protocol_fields, remove_fields, txn_fields, written};
@@ -192,6 +193,7 @@ fn finished(
     ensures ok { OnOk done (result.0.items ≡ writer.before ++ print writer.tokens) }
     ensures err { OnErr done (result.0.items ≡ take length (writer.before ++ print writer.tokens)) }
     ensures same { result.1 ≡ done }
+    ensures utf8 { OnOk done (is_utf8 (print writer.tokens) ≡ true) }
 {
     let mut bytes = writer.into_inner();
     if done.is_err() {
@@ -236,7 +238,9 @@ fn put_line(out: &mut Writer, action: &Action) -> Result<(), AllocError>
 pub fn push_line(alloc: Global, out: &mut Vec<u8>, action: &Action) -> Result<(), AllocError>
     ensures ok { OnOk result (out.new.items ≡ out.old.items ++ canonical_line action.now) }
     ensures err { OnErr result (out.new.items ≡ out.old.items) }
+    // What the types of the action see to: its integers have 64 bits, and its texts are UTF-8.
     ensures fits { OnOk result (HasFittingFields action.now) }
+    ensures utf8 { OnOk result (is_utf8 (canonical_line action.now) ≡ true) }
 {
     let length = out.len();
     let mut writer = Writer::new(mem::replace(out, Vec::new(alloc)));

@@ -1,8 +1,9 @@
 -- The one member of an object, by the entries of its map; and small facts on tests.
-use Rattle.std.proofs.Common.{◌≡◌, ◌≢◌, ℕ, List, [], ◌∷◌, length, Bool, true, false, cond, ◌||◌, Some, None, string_bytes, refl, ap, sym, ◌∙◌, arith}
+use Rattle.std.proofs.Common.{◌≡◌, ◌≢◌, ℕ, List, [], ◌∷◌, length, Bool, true, false, cond, ◌||◌, Some, None, is_some, string_bytes, refl, ap, sym, ◌∙◌, arith}
 use Rattle.std.specs.List.{slice_get}
 use Rattle.serde_json.specs.View.{view, members_view}
 use Rattle.serde_json.proofs.Views.{Entry}
+use Rattle.action_json.specs.Commit.{if_some}
 use Rattle.action_json.specs.Lines.{member_of}
 
 pub member_of-many : (es : List Entry) → length es ≢ 1 → member_of (members_view es) ≡ None
@@ -20,3 +21,7 @@ cond-or true true = refl
 cond-or true false = refl
 cond-or false true = refl
 cond-or false false = refl
+
+pub is_some_if_some : (b : Bool) (key : List ℕ) → is_some (if_some b key) ≡ b
+is_some_if_some true key = refl
+is_some_if_some false key = refl

@@ -1,11 +1,13 @@
 -- The reading of a commit's bytes, line by line, with the first fault that is met; and which lists of actions are commits.
-use Rattle.std.specs.Prelude.{◌≡◌, ℕ, ◌+◌, Bool, true, false, List, [], ◌∷◌, ◌++◌, bytes_eq, flat_map, IsTrue, Option, Some, None, Result, Ok, Err, if◌then◌else◌, ⊤}
-use Rattle.std.specs.List.{list_any}
+use Rattle.std.specs.Prelude.{◌≡◌, ℕ, ◌+◌, Bool, true, false, List, [], ◌∷◌, ◌++◌, ◌&&◌, not, is_some, bytes_eq, flat_map, Option, Some, None, Result, Ok, Err, if◌then◌else◌}
+use Rattle.std.specs.List.{AllByRecursion, list_any}
+use Rattle.std.specs.Str.{is_utf8}
 use Rattle.std.specs.Result.{result_ok, result_err}
 use Rattle.text_lines.specs.Lines.{cut, with_lf}
 use Rattle.action_types.specs.declared.actions.Action.{Action}
 use Rattle.action_types.specs.declared.actions.Action.TheVariants as action
 use Rattle.action_fields.specs.Canonical.{kind_of, canonical_line}
+use Rattle.action_fields.specs.Fits.{HasFittingFields}
 use Rattle.action_fields.specs.Valid.{has_valid_fields}
 use Rattle.action_json.specs.Lines.{line_of}
 use Rattle.action_json.specs.declared.line.Line.{Line}
@@ -130,12 +132,20 @@ begins_with_info [] = true
 begins_with_info (a ∷ more) = is_info a
 
 -- each has valid fields and nothing in common with those before it
-abbrev pub AreNew : List Action → List Action → Type 0
-AreNew before [] = ⊤
-AreNew before (a ∷ more) = (has_valid_fields a ≡ true) × (double_of before a ≡ None) × AreNew (before ++ a ∷ []) more
+abbrev pub are_new : List Action → List Action → Bool
+are_new before [] = true
+are_new before (a ∷ more) = has_valid_fields a && not (is_some (double_of before a)) && are_new (before ++ a ∷ []) more
 
 -- the list is empty or begins with a commitInfo; no path is mentioned twice, no application twice, and no protocol, metaData or
 -- commitInfo stands twice; each field is one that is read
 pub record IsCommit (actions : List Action) : Type 0 where
   pub begins : begins_with_info actions ≡ true
-  pub new : AreNew [] actions
+  pub new : are_new [] actions ≡ true
+
+-- what the code's types see to: integers of 64 bits, and texts that are UTF-8
+pub record IsWritten (a : Action) : Type 0 where
+  pub fits : HasFittingFields a
+  pub utf8 : is_utf8 (canonical_line a) ≡ true
+
+abbrev pub AreWritten : List Action → Type 0
+AreWritten = AllByRecursion IsWritten
