@@ -3,6 +3,7 @@
 
 mod fault;
 mod keys;
+pub mod laws;
 mod line;
 mod reading;
 mod valid;
