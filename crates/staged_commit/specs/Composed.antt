@@ -1,13 +1,11 @@
 -- The actions that a create composes, at a time and under the id of its staged commit (Delta protocol, "Commit Provenance
 -- Information", "Protocol Evolution" and "Change Metadata"; which features a table has is this project's profile).
-use Rattle.std.specs.Prelude.{◌≡◌, ℕ, ℤ, pos, ◌≤ℤ◌, List, [], ◌∷◌, ◌++◌, true, codes, filter, Option, Some, None}
+use Rattle.std.specs.Prelude.{◌≡◌, ℕ, ℤ, pos, List, [], ◌∷◌, codes, filter, Option, Some, None}
 use Rattle.action_types.specs.declared.actions.Action.{Action}
 use Rattle.action_types.specs.declared.actions.Action.TheVariants as action
 use Rattle.action_types.specs.declared.actions.Info.{Info}
 use Rattle.action_types.specs.declared.actions.Protocol.{Protocol}
 use Rattle.action_types.specs.declared.actions.Meta.{Meta}
-use Rattle.action_fields.specs.Types.{Pair}
-use Rattle.action_fields.specs.Valid.{are_texts}
 use Rattle.log_names.specs.Texts.{uuid_text}
 use Rattle.table_rules.specs.Texts.{names_have}
 use Rattle.table_rules.specs.Features.{shared_features}
@@ -53,6 +51,7 @@ unfoldable pub composed_create : Create → ℕ → ℤ → List Action
 composed_create create id time =
     action.Info (info_for id time) ∷ action.Protocol (protocol_for create.features) ∷ action.Meta (meta_for create time) ∷ []
 
--- the names of the configuration are in byte order, each once, and each has a text
-abbrev pub IsCreate : Create → Type 0
-IsCreate create = are_texts create.configuration ≡ true
+-- a create that names no features and no configuration: others are not composed yet
+pub record IsCreate (create : Create) : Type 0 where
+  pub configuration : create.configuration ≡ []
+  pub features : create.features ≡ None
