@@ -30,11 +30,14 @@ has_member op.Create name = bytes_eq name (codes "id") || bytes_eq name (codes "
 has_member op.Load name = bytes_eq name (codes "op")
 has_member op.Write name = bytes_eq name (codes "adds") || bytes_eq name (codes "app") || bytes_eq name (codes "number") || bytes_eq name (codes "op")
 
--- the first member that is not null and that such a request does not have; the members of a value that was read are in byte order
--- of their names, so it is the least
+-- a member that is not null and that such a request does not have
+abbrev pub is_other : Op → List ℕ → Data → Bool
+is_other o name d = not (has_member o name || is_some (as_null d))
+
+-- the first such member; the members of a value that was read are in byte order of their names, so it is the least
 abbrev pub other_member : Op → Members → Option (List ℕ)
 other_member o no_members = None
-other_member o (member k d ms) = if has_member o k || is_some (as_null d) then other_member o ms else Some k
+other_member o (member k d ms) = if is_other o k d then Some k else other_member o ms
 
 -- ---- what stands in them
 

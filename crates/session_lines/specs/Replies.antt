@@ -1,5 +1,5 @@
 -- The text of a reply: an object with its members in byte order of their names, ended by LF.
-use Rattle.std.specs.Prelude.{ℕ, ℤ, Bool, true, false, List, [], ◌∷◌, ◌++◌, map, codes, Option, Some, None, option_map, unwrap_or}
+use Rattle.std.specs.Prelude.{ℕ, ℤ, Bool, true, false, List, [], ◌∷◌, ◌++◌, map, codes, Option, Some, None, option_map, unwrap_or, ⊤}
 use Rattle.serde_json.specs.Data.{Data, null, number, unsigned, string, array, object, Items, no_items, item}
 use Rattle.serde_json.specs.Written.{compact_text}
 use Rattle.action_types.specs.declared.actions.Action.{Action}
@@ -109,6 +109,19 @@ bad_line at (why.Field f) =
     (codes "at", Some (count_data at)) ∷ (codes "field", said f) ∷ (codes "reply", said (codes "badLine")) ∷ (codes "why", said (codes "field")) ∷ []
 bad_line at why.TooLong = bad_line_fields at (codes "tooLong")
 
+-- the name of the reply alone, or with the last version
+abbrev pub named_fields : List ℕ → Fields
+named_fields name = (codes "reply", said name) ∷ []
+
+abbrev pub latest_fields : ℕ → List ℕ → Fields
+latest_fields latest name = (codes "latest", Some (count_data latest)) ∷ (codes "reply", said name) ∷ []
+
+abbrev pub conflict_front : ℕ → List ℕ → ℕ → Fields
+conflict_front base key latest = (codes "base", Some (count_data base)) ∷ (codes "key", said key) ∷ (codes "latest", Some (count_data latest)) ∷ []
+
+abbrev pub conflict_rest : Rule → ℕ → Fields
+conflict_rest rule winner = (codes "reply", said (codes "conflict")) ∷ (codes "rule", said (rule_name rule)) ∷ (codes "winner", Some (count_data winner)) ∷ []
+
 abbrev pub reply_fields : Reply → Fields
 reply_fields (reply.Committed base time version) =
     (codes "base", Some (base_data base))
@@ -118,23 +131,16 @@ reply_fields (reply.Committed base time version) =
 reply_fields (reply.Already latest recorded) =
     (codes "latest", Some (count_data latest)) ∷ (codes "recorded", Some (integer_data recorded)) ∷ (codes "reply", said (codes "already")) ∷ []
 reply_fields (reply.Loaded latest s time version) = loaded_fields latest s time version
-reply_fields reply.NoTable = (codes "reply", said (codes "noTable")) ∷ []
-reply_fields (reply.Exists latest) = (codes "latest", Some (count_data latest)) ∷ (codes "reply", said (codes "exists")) ∷ []
+reply_fields reply.NoTable = named_fields (codes "noTable")
+reply_fields (reply.Exists latest) = latest_fields latest (codes "exists")
 reply_fields (reply.Broken base b) =
     (codes "base", Some (base_data base))
     ∷ (codes "key", said (broken_key b))
     ∷ (codes "reply", said (codes "broken"))
     ∷ (codes "rule", said (broken_name b)) ∷ []
-reply_fields (reply.Conflict base key latest rule winner) =
-    (codes "base", Some (count_data base))
-    ∷ (codes "key", said key)
-    ∷ (codes "latest", Some (count_data latest))
-    ∷ (codes "reply", said (codes "conflict"))
-    ∷ (codes "rule", said (rule_name rule))
-    ∷ (codes "winner", Some (count_data winner)) ∷ []
-reply_fields (reply.Contended attempts latest) =
-    (codes "attempts", Some (count_data attempts)) ∷ (codes "latest", Some (count_data latest)) ∷ (codes "reply", said (codes "contended")) ∷ []
-reply_fields (reply.Full latest) = (codes "latest", Some (count_data latest)) ∷ (codes "reply", said (codes "full")) ∷ []
+reply_fields (reply.Conflict base key latest rule winner) = conflict_front base key latest ++ conflict_rest rule winner
+reply_fields (reply.Contended attempts latest) = (codes "attempts", Some (count_data attempts)) ∷ latest_fields latest (codes "contended")
+reply_fields (reply.Full latest) = latest_fields latest (codes "full")
 reply_fields (reply.TimeEnd base last) =
     (codes "base", Some (count_data base)) ∷ (codes "last", Some (integer_data last)) ∷ (codes "reply", said (codes "timeEnd")) ∷ []
 reply_fields (reply.TooLarge base bytes) =
@@ -145,8 +151,29 @@ reply_fields (reply.Taken base id version) =
     ∷ (codes "reply", said (codes "taken"))
     ∷ (codes "version", Some (count_data version)) ∷ []
 reply_fields (reply.Fault file) = (codes "name", said (spot_name file)) ∷ (codes "reply", said (codes "fault")) ∷ []
-reply_fields reply.Memory = (codes "reply", said (codes "memory")) ∷ []
+reply_fields reply.Memory = named_fields (codes "memory")
 reply_fields (reply.BadLine at w) = bad_line at w
 
+abbrev pub reply_data : Reply → Data
+reply_data r = object (with_fields (reply_fields r))
+
 unfoldable pub reply_text_of : Reply → List ℕ
-reply_text_of r = compact_text (object (with_fields (reply_fields r))) ++ 10 ∷ []
+reply_text_of r = compact_text (reply_data r) ++ 10 ∷ []
+
+-- every reply but Loaded
+abbrev pub IsShort : Reply → Type 0
+IsShort (reply.Loaded latest s time version) = ⊥
+IsShort (reply.Committed base time version) = ⊤
+IsShort (reply.Already latest recorded) = ⊤
+IsShort reply.NoTable = ⊤
+IsShort (reply.Exists latest) = ⊤
+IsShort (reply.Broken base b) = ⊤
+IsShort (reply.Conflict base key latest rule winner) = ⊤
+IsShort (reply.Contended attempts latest) = ⊤
+IsShort (reply.Full latest) = ⊤
+IsShort (reply.TimeEnd base last) = ⊤
+IsShort (reply.TooLarge base bytes) = ⊤
+IsShort (reply.Taken base id version) = ⊤
+IsShort (reply.Fault file) = ⊤
+IsShort reply.Memory = ⊤
+IsShort (reply.BadLine at w) = ⊤
