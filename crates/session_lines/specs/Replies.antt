@@ -116,6 +116,13 @@ named_fields name = (codes "reply", said name) ∷ []
 abbrev pub latest_fields : ℕ → List ℕ → Fields
 latest_fields latest name = (codes "latest", Some (count_data latest)) ∷ (codes "reply", said name) ∷ []
 
+abbrev pub committed_front : Option ℕ → Fields
+committed_front base = (codes "base", Some (base_data base)) ∷ (codes "reply", said (codes "committed")) ∷ []
+
+-- the time and the version of a commit
+abbrev pub moment_fields : ℤ → ℕ → Fields
+moment_fields time version = (codes "time", Some (integer_data time)) ∷ (codes "version", Some (count_data version)) ∷ []
+
 abbrev pub conflict_front : ℕ → List ℕ → ℕ → Fields
 conflict_front base key latest = (codes "base", Some (count_data base)) ∷ (codes "key", said key) ∷ (codes "latest", Some (count_data latest)) ∷ []
 
@@ -123,11 +130,7 @@ abbrev pub conflict_rest : Rule → ℕ → Fields
 conflict_rest rule winner = (codes "reply", said (codes "conflict")) ∷ (codes "rule", said (rule_name rule)) ∷ (codes "winner", Some (count_data winner)) ∷ []
 
 abbrev pub reply_fields : Reply → Fields
-reply_fields (reply.Committed base time version) =
-    (codes "base", Some (base_data base))
-    ∷ (codes "reply", said (codes "committed"))
-    ∷ (codes "time", Some (integer_data time))
-    ∷ (codes "version", Some (count_data version)) ∷ []
+reply_fields (reply.Committed base time version) = committed_front base ++ moment_fields time version
 reply_fields (reply.Already latest recorded) =
     (codes "latest", Some (count_data latest)) ∷ (codes "recorded", Some (integer_data recorded)) ∷ (codes "reply", said (codes "already")) ∷ []
 reply_fields (reply.Loaded latest s time version) = loaded_fields latest s time version

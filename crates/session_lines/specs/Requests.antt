@@ -1,5 +1,6 @@
 -- What a line asks for, or the first reason why it is no request.
-use Rattle.std.specs.Prelude.{◌≡◌, ℕ, List, [], codes, true, Option, Some, None, option_and_then, Result, Ok, Err, if◌then◌else◌, ⊤, All}
+use Rattle.std.specs.Prelude.{◌≡◌, ℕ, List, [], codes, true, Option, Some, None, option_and_then, Result, Ok, Err, if◌then◌else◌, ⊤}
+use Rattle.std.specs.List.{list_all}
 use Rattle.std.specs.Str.{is_utf8}
 use Rattle.serde_json.specs.Data.{Data, Members}
 use Rattle.serde_json.specs.Find.{as_object, as_str, get}
@@ -81,7 +82,7 @@ request_of line = if is_utf8 line then text_request line else Err why.Utf8
 
 -- the adds have fields that a commit may have, and paths of their own
 pub record IsIntent (intent : Intent) : Type 0 where
-  pub adds : All (λ a. has_valid_fields (action.Add a) ≡ true) intent.adds
+  pub adds : list_all (λ a. has_valid_fields (action.Add a)) intent.adds ≡ true
   pub paths : have_own_paths intent.adds ≡ true
 
 abbrev pub IsRequest : Request → Type 0

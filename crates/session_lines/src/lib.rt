@@ -2,10 +2,15 @@
 #![tactic(auto)]
 
 mod fault;
+mod files;
+mod member;
+mod names;
 mod op;
+mod put;
 mod reading;
 mod reply;
 mod request;
+mod text;
 mod writing;
 
 pub use fault::{BadLine, LineWhy};

@@ -16,7 +16,10 @@ pub enum Reply {
         version: u64,
     },
     /// The application has recorded this number, which is not below that of the write.
-    Already { latest: u64, recorded: i64 },
+    Already {
+        latest: u64,
+        recorded: i64,
+    },
     /// The state of a version.
     Loaded {
         latest: u64,
@@ -27,9 +30,14 @@ pub enum Reply {
     /// The table has no commit.
     NoTable,
     /// The table has a commit.
-    Exists { latest: u64 },
+    Exists {
+        latest: u64,
+    },
     /// The commit would break this rule.
-    Broken { base: Option<u64>, why: Broken },
+    Broken {
+        base: Option<u64>,
+        why: Broken,
+    },
     /// The write conflicts with the commit of the version `winner`.
     Conflict {
         base: u64,
@@ -39,13 +47,24 @@ pub enum Reply {
         winner: u64,
     },
     /// Others ratified first, so often.
-    Contended { attempts: u64, latest: u64 },
+    Contended {
+        attempts: u64,
+        latest: u64,
+    },
     /// The table has as many versions as it may have.
-    Full { latest: u64 },
+    Full {
+        latest: u64,
+    },
     /// The base has the last time that there is.
-    TimeEnd { base: u64, last: i64 },
+    TimeEnd {
+        base: u64,
+        last: i64,
+    },
     /// The commit's text has so many bytes, more than the limit.
-    TooLarge { base: Option<u64>, bytes: u64 },
+    TooLarge {
+        base: Option<u64>,
+        bytes: u64,
+    },
     /// A file stands under the staged name of this version and id.
     Taken {
         base: Option<u64>,
@@ -53,9 +72,14 @@ pub enum Reply {
         version: u64,
     },
     /// The store failed at this file, or at the folder where there is none.
-    Fault { file: Option<LogName> },
+    Fault {
+        file: Option<LogName>,
+    },
     /// Memory ran out.
     Memory,
     /// The line, from 1, is no request.
-    BadLine { at: u64, why: LineWhy },
+    BadLine {
+        at: u64,
+        why: LineWhy,
+    },
 }
