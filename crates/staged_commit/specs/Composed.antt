@@ -5,6 +5,7 @@ use Rattle.action_types.specs.declared.actions.Action.{Action}
 use Rattle.action_types.specs.declared.actions.Action.TheVariants as action
 use Rattle.action_types.specs.declared.actions.Info.{Info}
 use Rattle.action_types.specs.declared.actions.Protocol.{Protocol}
+use Rattle.action_types.specs.declared.actions.Format.{Format}
 use Rattle.action_types.specs.declared.actions.Meta.{Meta}
 use Rattle.log_names.specs.Texts.{uuid_text}
 use Rattle.table_rules.specs.Texts.{names_have}
@@ -35,12 +36,16 @@ protocol_for asked = record {
 abbrev pub info_for : ℕ → ℤ → Info
 info_for id time = record { time = time; txn_id = Some (uuid_text id) }
 
+-- the encoding of the data files
+abbrev pub parquet_format : Format
+parquet_format = record { provider = codes "parquet"; options = [] }
+
 abbrev pub meta_for : Create → ℤ → Meta
 meta_for create time = record {
   configuration = with_pair (timestamps_property, Some (codes "true")) create.configuration;
   created = Some time;
   description = create.description;
-  format = record { provider = codes "parquet"; options = [] };
+  format = parquet_format;
   id = create.id;
   name = create.name;
   columns = create.partition;
