@@ -11,15 +11,15 @@ use Rattle.action_json.specs.Commit.{Flaw, outcome_from}
 pub no_lf_before : (text : List ℕ) (n : ℕ) → n ≤ length text → ((k : ℕ) → k < n → (get_or text k 0 == 10) ≡ true → ⊥) → HasNoLf (take n text)
 no_lf_before text n within h =
     All-from_get_or (λ b. b ≢ 10) (take n text) 0 (λ i below.
-      let low : i < n = omega (arith, length-take-le n text within) in
-      λ e. h i low (eq-eqb (get_or text i 0) 10 (sym (get_or-take n text i 0 low) ∙ e)))
+    let low : i < n = omega (arith, length-take-le n text within) in
+    λ e. h i low (eq-eqb (get_or text i 0) 10 (sym (get_or-take n text i 0 low) ∙ e)))
 
 -- a text up to its first LF, and what follows that LF
 pub cut_at : (text : List ℕ) (n : ℕ) → n < length text → get_or text n 0 ≡ 10 → HasNoLf (take n text)
     → cut text ≡ take n text ∷ cut (take (length text - (n + 1)) (drop (n + 1) text))
 cut_at text n h lf none =
     let whole : take n text ++ 10 ∷ drop (n + 1) text ≡ text =
-        ap (λ l. take n text ++ l) (ap (λ b. b ∷ drop (n + 1) text) (sym lf) ∙ (rw add-one (sym (drop-cons text n 0 h)))) ∙ take-append-drop n text in
+    ap (λ l. take n text ++ l) (ap (λ b. b ∷ drop (n + 1) text) (sym lf) ∙ (rw add-one (sym (drop-cons text n 0 h)))) ∙ take-append-drop n text in
     let rest : take (length text - (n + 1)) (drop (n + 1) text) ≡ drop (n + 1) text = take_all (length text - (n + 1)) (drop (n + 1) text) (omega (arith, length-drop (n + 1) text)) in
     ap cut (sym whole) ∙ cut-line (take n text) (drop (n + 1) text) none ∙ ap (λ l. take n text ∷ cut l) (sym rest)
 

@@ -36,11 +36,7 @@ impl Keys {
 
     /// Notes what an action names. The answer is the key that it has in common with an action before it, if there is one.
     #[tactic(auto, unfolding(crate::specs::Commit::double_of))]
-    pub(crate) fn add(
-        &mut self,
-        alloc: Global,
-        action: &Action,
-    ) -> Result<Option<Name>, AllocError>
+    pub(crate) fn add(&mut self, alloc: Global, action: &Action) -> Result<Option<Name>, AllocError>
         ensures double { IfOk result (λ o. (done : List Action) → Knows self.old done → o ≡ double_of done action.now) }
         ensures knows { OnOk result ((done : List Action) → Knows self.old done → Knows self.new (done ++ action.now ∷ [])) }
     {
@@ -67,11 +63,7 @@ fn empty_if(alloc: Global, wanted: bool) -> Result<Option<Name>, AllocError>
 }
 
 /// Notes a key; the answer is the key where it was noted before.
-fn note(
-    alloc: Global,
-    keys: &mut BTreeSet<String>,
-    key: &Name,
-) -> Result<Option<Name>, AllocError>
+fn note(alloc: Global, keys: &mut BTreeSet<String>, key: &Name) -> Result<Option<Name>, AllocError>
     ensures double { IfOk result (λ o. o ≡ if_some (contains_text keys.old key.now) key.now) }
     ensures noted { OnOk result ((q : List ℕ) → contains_text keys.new q ≡ (contains_text keys.old q || bytes_eq key.now q)) }
 {

@@ -25,8 +25,7 @@ pub(crate) enum Line {
 fn is_blank(line: &[u8]) -> bool
     ensures { result ≡ is_blank line.now }
 {
-    line.iter()
-        .all(|byte| *byte == b' ' || *byte == b'\t' || *byte == b'\n' || *byte == b'\r')
+    line.iter().all(|byte| *byte == b' ' || *byte == b'\t' || *byte == b'\n' || *byte == b'\r')
 }
 
 /// What a line says; `first` where no line before it says anything. An error is its first reason, or want of memory.

@@ -67,9 +67,22 @@ Answers tells left' limit at bytes (Err error.ReadFault) at' = Stops limit at by
 Answers tells left' limit at bytes (Err error.TooMuch) at' = Stops limit at bytes error.TooMuch at' × (at.read + length bytes ≡ input_limit)
 Answers tells left' limit at bytes (Err error.Memory) at' = at' ≡ stopped (at.read + length bytes) error.Memory
 
+-- some bytes were taken, and those before the last piece left less than a request
+pub record LastPiece (limit : ℕ) (pending bytes : List ℕ) : Type 0 where
+  pub front : List ℕ
+  pub piece : List ℕ
+  pub split : bytes ≡ front ++ piece
+  pub small : length piece ≤ 65536
+  pub unfinished : IsUnfinished limit (pending ++ front)
+
+-- A piece is asked for only where there is less than a request: what was received whole is answered before more is asked for.
+abbrev pub Asked : ℕ → List ℕ → List ℕ → Type 0
+Asked limit pending bytes = (bytes ≡ []) ⊎ LastPiece limit pending bytes
+
 pub record Next (tells : Bool) (taken left taken' left' : List ℕ) (limit : ℕ) (at : WireAt) (result : Result (Option Request) WireError) (at' : WireAt) : Type 0 where
   pub bytes : List ℕ
   pub takes : Takes tells taken left bytes taken' left'
+  pub asked : Asked limit at.pending bytes
   pub answers : Answers tells left' limit at bytes result at'
 
 -- an answer that is given again and again: neither the reader nor the source changes

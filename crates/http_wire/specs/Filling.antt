@@ -2,7 +2,7 @@
 use Rattle.std.specs.Prelude.{ℕ, ◌≡◌, ◌+◌, ◌<◌, ◌≤◌, Bool, true, false, List, [], ◌++◌, length, IsTrue, Option, Some, None, Result, Ok, Err}
 use Rattle.lake_io.specs.Reading.{input_limit}
 use Rattle.lake_io.specs.Told.{Takes}
-use Rattle.http_wire.specs.Connection.{WireAt}
+use Rattle.http_wire.specs.Connection.{WireAt, Asked}
 use Rattle.http_wire.specs.Found.{GivesRequest}
 use Rattle.http_wire.specs.Requests.{IsRefused, IsUnfinished}
 use Rattle.http_wire.specs.declared.request.Request.{Request}
@@ -56,6 +56,7 @@ pub record FillStops (tells : Bool) (taken left : List ℕ) (at : WireAt) (taken
 -- memory ran out for what the source gave
 pub record FillLoses (tells : Bool) (taken left : List ℕ) (at : WireAt) (taken' left' : List ℕ) (at' : WireAt) : Type 0 where
   pub bytes : List ℕ
+  pub piece : length bytes ≤ 65536
   pub takes : Takes tells taken left bytes taken' left'
   pub read_is : at'.read ≡ at.read + length bytes
   pub state_is : at'.state ≡ at.state
@@ -108,4 +109,5 @@ Finds tells left' limit at bytes (Err error.Memory) at' = at'.read ≡ at.read +
 pub record Asks (tells : Bool) (taken left taken' left' : List ℕ) (limit : ℕ) (at : WireAt) (result : Result (Option Request) WireError) (at' : WireAt) : Type 0 where
   pub bytes : List ℕ
   pub takes : Takes tells taken left bytes taken' left'
+  pub asked : Asked limit at.pending bytes
   pub finds : Finds tells left' limit at bytes result at'

@@ -5,8 +5,6 @@ use std::test::Fail;
 
 const PATHS: [&str; 4] = ["a", "b", "b/c", "é"];
 
-const APPS: [&str; 5] = ["A", "a", "b", "b/c", "é"];
-
 fn info(time: i64) -> Action {
     Action::Info(Info { time, txn_id: None })
 }
@@ -67,52 +65,45 @@ fn remove(alloc: Global, path: &str, deleted: i64) -> Result<Action, AllocError>
     }))
 }
 
-/// Whether the live files, in the order of the walk, are those that the plain search finds.
-fn same_files(state: &State, commits: &[Vec<Action>]) -> bool {
-    let mut files = state.files();
-    for path in PATHS {
-        if let Some(add) = plain::live(commits, path) {
-            match files.next() {
-                Some(file) if file.path == add.path && file.size == add.size && !file.change => {}
-                _ => return false,
-            }
+/// Whether what the walks give is what the plain search finds.
+fn walks_agree(state: &State, commits: &[Vec<Action>]) -> bool {
+    for file in state.files() {
+        if plain::live(commits, file.path.as_str()).map(|a| a.size) != Some(file.size) {
+            return false;
         }
     }
-    files.next().is_none()
+    for gone in state.tombstones() {
+        if plain::gone(commits, gone.path.as_str()).map(|r| r.deleted) != Some(gone.deleted) {
+            return false;
+        }
+    }
+    for txn in state.txns() {
+        if plain::number(commits, txn.app.as_str()) != Some(txn.number) {
+            return false;
+        }
+    }
+    true
 }
 
-fn same_tombstones(state: &State, commits: &[Vec<Action>]) -> bool {
-    let mut tombstones = state.tombstones();
-    for path in PATHS {
-        if let Some(remove) = plain::gone(commits, path) {
-            match tombstones.next() {
-                Some(gone)
-                    if gone.path == remove.path && gone.deleted == remove.deleted && !gone.change =>
-                    {}
-                _ => return false,
-            }
-        }
-    }
-    tombstones.next().is_none()
+/// Whether the look-ups of a path, which is an application's id too, are what the plain search finds.
+fn path_agrees(state: &State, commits: &[Vec<Action>], path: &str) -> bool {
+    state.live(path).map(|a| a.size) == plain::live(commits, path).map(|a| a.size)
+        && state.gone(path).map(|r| r.deleted) == plain::gone(commits, path).map(|r| r.deleted)
+        && state.number(path) == plain::number(commits, path)
 }
 
-fn same_txns(state: &State, commits: &[Vec<Action>]) -> bool {
-    let mut txns = state.txns();
-    for app in APPS {
-        if let Some(number) = plain::number(commits, app) {
-            match txns.next() {
-                Some(txn) if txn.app.as_str() == app && txn.number == number => {}
-                _ => return false,
-            }
+fn paths_agree(state: &State, commits: &[Vec<Action>]) -> bool {
+    for path in PATHS {
+        if !path_agrees(state, commits, path) {
+            return false;
         }
     }
-    txns.next().is_none()
+    true
 }
 
 fn same(state: &State, commits: &[Vec<Action>]) -> bool {
-    same_files(state, commits)
-        && same_tombstones(state, commits)
-        && same_txns(state, commits)
+    walks_agree(state, commits)
+        && paths_agree(state, commits)
         && state.time() == plain::time(commits)
         && state.protocol().map(|p| p.reader) == plain::protocol(commits).map(|p| p.reader)
         && state.meta().map(|m| m.created) == plain::meta(commits).map(|m| m.created)
@@ -157,22 +148,50 @@ fn state_of(alloc: Global, commits: &[Vec<Action>]) -> Result<State, AllocError>
     Ok(state)
 }
 
+fn is_removed(state: &State) -> bool {
+    state.live("a").is_none()
+        && state.gone("a").map(|r| r.deleted) == Some(Some(1002))
+        && state.number("A") == Some(2)
+        && state.time() == Some(1002)
+}
+
+fn is_added_again(state: &State) -> bool {
+    state.live("a").map(|a| a.size) == Some(30)
+        && state.gone("a").is_none()
+        && state.number("A") == Some(3)
+        && state.time() == Some(1003)
+}
+
+fn four_commits(alloc: Global) -> Result<Vec<Vec<Action>>, AllocError> {
+    let mut commits = three_commits(alloc)?;
+    commits.push(written(alloc, 1003, 3, add(alloc, "a", 30)?)?)?;
+    Ok(commits)
+}
+
+fn removes(alloc: Global) -> Result<bool, AllocError> {
+    let commits = three_commits(alloc)?;
+    let state = state_of(alloc, commits.as_slice())?;
+    Ok(is_removed(&state) && same(&state, commits.as_slice()))
+}
+
+fn adds_again(alloc: Global) -> Result<bool, AllocError> {
+    let commits = four_commits(alloc)?;
+    let state = state_of(alloc, commits.as_slice())?;
+    Ok(is_added_again(&state) && same(&state, commits.as_slice()))
+}
+
+fn copies(alloc: Global) -> Result<bool, AllocError> {
+    let commits = four_commits(alloc)?;
+    let copy = state_of(alloc, commits.as_slice())?.copy()?;
+    Ok(same(&copy, commits.as_slice()) && copy.with_time(7).time() == Some(7))
+}
+
 #[test]
 fn remove_and_add_again(rt: HostRuntime) -> Result<(), Fail> {
     let alloc = rt.alloc();
-    let mut commits = three_commits(alloc)?;
-    let state = state_of(alloc, commits.as_slice())?;
-    assert!(rt; state.live("a").is_none());
-    assert_eq!(rt; state.gone("a").map(|r| r.deleted), Some(Some(1002)));
-    assert_eq!(rt; state.time(), Some(1002));
-    commits.push(written(alloc, 1003, 3, add(alloc, "a", 30)?)?)?;
-    let state = state_of(alloc, commits.as_slice())?;
-    assert_eq!(rt; state.live("a").map(|a| a.size), Some(30));
-    assert!(rt; state.gone("a").is_none());
-    assert_eq!(rt; state.number("A"), Some(3));
-    assert_eq!(rt; state.time(), Some(1003));
-    assert!(rt; same(&state.copy()?, commits.as_slice()));
-    assert_eq!(rt; state.with_time(7).time(), Some(7));
+    assert!(rt; removes(alloc)?);
+    assert!(rt; adds_again(alloc)?);
+    assert!(rt; copies(alloc)?);
     Ok(())
 }
 

@@ -17,5 +17,5 @@ returns-in_err-fill-clause-asks g c =
 
 pub returns-in-Some-clause-holds : goal.returns-in-Some-clause-holds
 returns-in-Some-clause-holds g c =
-    held_next c.args.limit c.args.self.now.pending c.loop-request.self c.in-Some.request c.take_request.new.self c.loop-request.invariant.2
+    held_next _ c.args.limit _ _ c.args.self.now _ _ c.loop-request.self c.in-Some.request c.take_request.new.self c.loop-request.invariant.0
     (rw c.in-Some.is at c.in_ok-request.ensures)

@@ -1,0 +1,4 @@
+pub mod Causes
+pub mod Converting
+pub mod Publishing
+pub mod Worlds

@@ -1,0 +1,182 @@
+-- The text of a reply: an object with its members in byte order of their names, ended by LF.
+use Rattle.std.specs.Prelude.{ℕ, ℤ, Bool, true, false, List, [], ◌∷◌, ◌++◌, map, codes, Option, Some, None, option_map, unwrap_or, ⊤}
+use Rattle.serde_json.specs.Data.{Data, null, number, unsigned, string, array, object, Items, no_items, item}
+use Rattle.serde_json.specs.Written.{compact_text}
+use Rattle.action_types.specs.declared.actions.Action.{Action}
+use Rattle.action_types.specs.declared.actions.Action.TheVariants as action
+use Rattle.action_fields.specs.Canonical.{Fields, with_fields, integer_data, body_data}
+use Rattle.conflict_rules.specs.declared.clash.Rule.{Rule}
+use Rattle.conflict_rules.specs.declared.clash.Rule.TheVariants as clash
+use Rattle.log_names.specs.declared.LogName.{LogName}
+use Rattle.log_names.specs.Texts.{name_text, uuid_text}
+use Rattle.reconcile.specs.declared.state.State.{State}
+use Rattle.reconcile.specs.Standing.{files_in, tombstones_in, txns_in, protocol_in, meta_in}
+use Rattle.table_rules.specs.declared.broken.Broken.{Broken}
+use Rattle.table_rules.specs.declared.broken.Broken.TheVariants as broken
+use Rattle.session_lines.specs.declared.fault.LineWhy.{LineWhy}
+use Rattle.session_lines.specs.declared.fault.LineWhy.TheVariants as why
+use Rattle.session_lines.specs.declared.reply.Reply.{Reply}
+use Rattle.session_lines.specs.declared.reply.Reply.TheVariants as reply
+
+-- ---- names and keys of rules
+
+abbrev pub broken_name : Broken → List ℕ
+broken_name broken.NoInfo = codes "noInfo"
+broken_name broken.NoMeta = codes "noMeta"
+broken_name (broken.TimeNotAfter last) = codes "timeNotAfter"
+broken_name (broken.Feature name) = codes "feature"
+broken_name (broken.Property name) = codes "property"
+broken_name broken.Invariants = codes "invariants"
+broken_name broken.Columns = codes "columns"
+broken_name (broken.TxnNotAfter app recorded) = codes "txnNotAfter"
+broken_name (broken.NotLive path) = codes "notLive"
+broken_name (broken.AppendOnly path) = codes "appendOnly"
+broken_name (broken.Partition path) = codes "partition"
+broken_name broken.Memory = codes "memory"
+
+-- the name, path or application that the rule names, else the empty text
+abbrev pub broken_key : Broken → List ℕ
+broken_key broken.NoInfo = []
+broken_key broken.NoMeta = []
+broken_key (broken.TimeNotAfter last) = []
+broken_key (broken.Feature name) = name
+broken_key (broken.Property name) = name
+broken_key broken.Invariants = []
+broken_key broken.Columns = []
+broken_key (broken.TxnNotAfter app recorded) = app
+broken_key (broken.NotLive path) = path
+broken_key (broken.AppendOnly path) = path
+broken_key (broken.Partition path) = path
+broken_key broken.Memory = []
+
+abbrev pub rule_name : Rule → List ℕ
+rule_name clash.Protocol = codes "protocol"
+rule_name clash.Metadata = codes "metadata"
+rule_name clash.Transaction = codes "transaction"
+rule_name clash.DeleteDelete = codes "deleteDelete"
+rule_name clash.DeleteRead = codes "deleteRead"
+rule_name clash.Append = codes "append"
+
+-- the file's name, or the empty text for the folder
+abbrev pub spot_name : Option LogName → List ℕ
+spot_name None = []
+spot_name (Some n) = unwrap_or (name_text n) []
+
+-- ---- values
+
+abbrev pub count_data : ℕ → Data
+count_data n = number (unsigned n)
+
+abbrev pub base_data : Option ℕ → Data
+base_data None = null
+base_data (Some v) = count_data v
+
+abbrev pub bodies_items : Bool → List Action → Items
+bodies_items change [] = no_items
+bodies_items change (a ∷ more) = item (body_data change a) (bodies_items change more)
+
+-- the bodies of actions, each with dataChange or without it
+abbrev pub bodies_data : Bool → List Action → Data
+bodies_data change actions = array (bodies_items change actions)
+
+abbrev pub said : List ℕ → Option Data
+said name = Some (string name)
+
+-- ---- replies
+
+-- the live files, the metadata, the protocol, the tombstones and the latest txns of a state
+abbrev pub loaded_fields : ℕ → State → ℤ → ℕ → Fields
+loaded_fields latest s time version =
+    (codes "files", Some (bodies_data false (map action.Add (files_in s))))
+    ∷ (codes "latest", Some (count_data latest))
+    ∷ (codes "metaData", option_map (λ m. body_data true (action.Meta m)) (meta_in s))
+    ∷ (codes "protocol", option_map (λ p. body_data true (action.Protocol p)) (protocol_in s))
+    ∷ (codes "removed", Some (bodies_data false (map action.Remove (tombstones_in s))))
+    ∷ (codes "reply", said (codes "loaded"))
+    ∷ (codes "time", Some (integer_data time))
+    ∷ (codes "txns", Some (bodies_data true (map action.Txn (txns_in s))))
+    ∷ (codes "version", Some (count_data version)) ∷ []
+
+abbrev pub bad_line_fields : ℕ → List ℕ → Fields
+bad_line_fields at reason = (codes "at", Some (count_data at)) ∷ (codes "reply", said (codes "badLine")) ∷ (codes "why", said reason) ∷ []
+
+abbrev pub bad_line : ℕ → LineWhy → Fields
+bad_line at why.Utf8 = bad_line_fields at (codes "utf8")
+bad_line at why.NotJson = bad_line_fields at (codes "notJson")
+bad_line at why.NotObject = bad_line_fields at (codes "notObject")
+bad_line at why.Op = bad_line_fields at (codes "op")
+bad_line at (why.Field f) =
+    (codes "at", Some (count_data at)) ∷ (codes "field", said f) ∷ (codes "reply", said (codes "badLine")) ∷ (codes "why", said (codes "field")) ∷ []
+bad_line at why.TooLong = bad_line_fields at (codes "tooLong")
+
+-- the name of the reply alone, or with the last version
+abbrev pub named_fields : List ℕ → Fields
+named_fields name = (codes "reply", said name) ∷ []
+
+abbrev pub latest_fields : ℕ → List ℕ → Fields
+latest_fields latest name = (codes "latest", Some (count_data latest)) ∷ (codes "reply", said name) ∷ []
+
+abbrev pub committed_front : Option ℕ → Fields
+committed_front base = (codes "base", Some (base_data base)) ∷ (codes "reply", said (codes "committed")) ∷ []
+
+-- the time and the version of a commit
+abbrev pub moment_fields : ℤ → ℕ → Fields
+moment_fields time version = (codes "time", Some (integer_data time)) ∷ (codes "version", Some (count_data version)) ∷ []
+
+abbrev pub conflict_front : ℕ → List ℕ → ℕ → Fields
+conflict_front base key latest = (codes "base", Some (count_data base)) ∷ (codes "key", said key) ∷ (codes "latest", Some (count_data latest)) ∷ []
+
+abbrev pub conflict_rest : Rule → ℕ → Fields
+conflict_rest rule winner = (codes "reply", said (codes "conflict")) ∷ (codes "rule", said (rule_name rule)) ∷ (codes "winner", Some (count_data winner)) ∷ []
+
+abbrev pub reply_fields : Reply → Fields
+reply_fields (reply.Committed base time version) = committed_front base ++ moment_fields time version
+reply_fields (reply.Already latest recorded) =
+    (codes "latest", Some (count_data latest)) ∷ (codes "recorded", Some (integer_data recorded)) ∷ (codes "reply", said (codes "already")) ∷ []
+reply_fields (reply.Loaded latest s time version) = loaded_fields latest s time version
+reply_fields reply.NoTable = named_fields (codes "noTable")
+reply_fields (reply.Exists latest) = latest_fields latest (codes "exists")
+reply_fields (reply.Broken base b) =
+    (codes "base", Some (base_data base))
+    ∷ (codes "key", said (broken_key b))
+    ∷ (codes "reply", said (codes "broken"))
+    ∷ (codes "rule", said (broken_name b)) ∷ []
+reply_fields (reply.Conflict base key latest rule winner) = conflict_front base key latest ++ conflict_rest rule winner
+reply_fields (reply.Contended attempts latest) = (codes "attempts", Some (count_data attempts)) ∷ latest_fields latest (codes "contended")
+reply_fields (reply.Full latest) = latest_fields latest (codes "full")
+reply_fields (reply.TimeEnd base last) =
+    (codes "base", Some (count_data base)) ∷ (codes "last", Some (integer_data last)) ∷ (codes "reply", said (codes "timeEnd")) ∷ []
+reply_fields (reply.TooLarge base bytes) =
+    (codes "base", Some (base_data base)) ∷ (codes "bytes", Some (count_data bytes)) ∷ (codes "reply", said (codes "tooLarge")) ∷ []
+reply_fields (reply.Taken base id version) =
+    (codes "base", Some (base_data base))
+    ∷ (codes "id", said (uuid_text id))
+    ∷ (codes "reply", said (codes "taken"))
+    ∷ (codes "version", Some (count_data version)) ∷ []
+reply_fields (reply.Fault file) = (codes "name", said (spot_name file)) ∷ (codes "reply", said (codes "fault")) ∷ []
+reply_fields reply.Memory = named_fields (codes "memory")
+reply_fields (reply.BadLine at w) = bad_line at w
+
+abbrev pub reply_data : Reply → Data
+reply_data r = object (with_fields (reply_fields r))
+
+unfoldable pub reply_text_of : Reply → List ℕ
+reply_text_of r = compact_text (reply_data r) ++ 10 ∷ []
+
+-- every reply but Loaded
+abbrev pub IsShort : Reply → Type 0
+IsShort (reply.Loaded latest s time version) = ⊥
+IsShort (reply.Committed base time version) = ⊤
+IsShort (reply.Already latest recorded) = ⊤
+IsShort reply.NoTable = ⊤
+IsShort (reply.Exists latest) = ⊤
+IsShort (reply.Broken base b) = ⊤
+IsShort (reply.Conflict base key latest rule winner) = ⊤
+IsShort (reply.Contended attempts latest) = ⊤
+IsShort (reply.Full latest) = ⊤
+IsShort (reply.TimeEnd base last) = ⊤
+IsShort (reply.TooLarge base bytes) = ⊤
+IsShort (reply.Taken base id version) = ⊤
+IsShort (reply.Fault file) = ⊤
+IsShort reply.Memory = ⊤
+IsShort (reply.BadLine at w) = ⊤

@@ -1,0 +1,69 @@
+//! Lists of files to add.
+ghost use Rattle.std.specs.Prelude.{◌≡◌, IfOk};
+ghost use Rattle.serde_json.specs.View.{items_view, view};
+ghost use Rattle.action_fields.specs.Bodies.{body_of};
+ghost use Rattle.action_fields.specs.declared.kind.Kind.TheVariants as kind;
+ghost use Rattle.session_lines.specs.Members.{adds_in, as_add, files, have_own_paths};
+
+use action_fields::{BadBody, Kind, read_body};
+use action_types::{Action, Add};
+use conflict_rules::Adds;
+use serde_json::Value;
+use std::alloc::{AllocError, Global};
+use std::collections::BTreeSet;
+
+/// A list of bodies of `add`, each with a path of its own; refused for want of memory alone.
+pub(crate) fn files_of(alloc: Global, value: &Value) -> Result<Option<Adds>, AllocError>
+    ensures { IfOk result (λ o. o ≡ files (view value.now)) }
+{
+    let Some(items) = value.as_array() else {
+        return Ok(None);
+    };
+    match adds_of(alloc, items.as_slice())? {
+        None => Ok(None),
+        Some(adds) => if have_own_paths(alloc, adds.as_slice())? {
+            Ok(Some(adds))
+        } else {
+            Ok(None)
+        },
+    }
+}
+
+fn adds_of(alloc: Global, items: &[Value]) -> Result<Option<Adds>, AllocError>
+    ensures { IfOk result (λ o. o ≡ adds_in (items_view items.now)) }
+{
+    let mut found = Adds::new(alloc);
+    for item in items {
+        match add_of(alloc, item)? {
+            None => return Ok(None),
+            Some(add) => found.push(add)?,
+        }
+    }
+    Ok(Some(found))
+}
+
+/// The file that a body of `add` says; refused for want of memory alone.
+fn add_of(alloc: Global, value: &Value) -> Result<Option<Add>, AllocError>
+    ensures { IfOk result (λ o. o ≡ as_add (body_of kind.Add (view value.now))) }
+{
+    match read_body(alloc, Kind::Add, value) {
+        Ok(Action::Add(add)) => Ok(Some(add)),
+        Ok(_) | Err(BadBody::Field { .. }) => Ok(None),
+        Err(BadBody::Memory) => Err(AllocError),
+    }
+}
+
+/// Whether no path stands twice; refused for want of memory alone.
+#[tactic(auto, unfolding(crate::specs::Members::have_own_paths))]
+fn have_own_paths(alloc: Global, adds: &[Add]) -> Result<bool, AllocError>
+    ensures { IfOk result (λ b. b ≡ have_own_paths adds.now) }
+{
+    let mut paths = BTreeSet::new(alloc);
+    for add in adds {
+        if paths.contains(add.path.as_str()) {
+            return Ok(false);
+        }
+        paths.insert(String::from_str(alloc, add.path.as_str())?)?;
+    }
+    Ok(true)
+}

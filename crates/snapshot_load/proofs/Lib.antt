@@ -1,0 +1,4 @@
+pub mod Causing
+pub mod Listing
+pub mod Loaded
+pub mod Replaying

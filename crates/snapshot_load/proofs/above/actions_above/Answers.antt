@@ -1,0 +1,41 @@
+use Rattle.std.proofs.Common.{rules, ◌+◌, vec_len, arith, ◌∙◌}
+use Rattle.table_model.proofs.Growing.{grows_trans}
+use Rattle.snapshot_load.specs.Causes.{ReadCause}
+use Rattle.snapshot_load.proofs.Causing.{cause_later}
+use Rattle.snapshot_load.proofs.Replaying.{reads_version, catalogue_kept, winners_step, winners_all, sound_kept}
+use Rattle.snapshot_load.proofs.above.actions_above.Goals as goal
+
+pub version_actions-requires-clause-place : goal.version_actions-requires-clause-place
+version_actions-requires-clause-place g c =
+    c.place_of.ensures g.T.Steps.tells _
+    (catalogue_kept _ _ _ _ c.loop-version.invariant.reads c.loop-version.invariant.grows.published c.requires.catalogue)
+    (λ t. omega arith)
+
+pub returns-in_err-actions-clause-cause : goal.returns-in_err-actions-clause-cause
+returns-in_err-actions-clause-cause g c =
+    let i : ReadCause g.T.Steps.tells c.in_err-actions.field-0.0 (g.T.Steps.known c.args.caller.now) (g.T.Steps.known c.version_actions.new.caller) =
+    cause_later _ _ _ _ _ c.loop-version.invariant.grows c.in_err-actions.ensures.cause in
+    search rules
+
+pub loop-version-preserved : goal.loop-version-preserved
+loop-version-preserved g c =
+    let now = catalogue_kept _ _ _ _ c.loop-version.invariant.reads c.loop-version.invariant.grows.published c.requires.catalogue in
+    record {
+      reads = rw c.in_ok-push.ensures.len (reads_version _ _ _ _ c.loop-version.invariant.reads c.in_ok-actions.ensures.reads);
+      grows = grows_trans _ _ _ c.loop-version.invariant.grows c.in_ok-actions.ensures.grows;
+      valid = c.in_ok-actions.ensures.valid;
+      after = g.met.T.Steps.after_both _ _ _ c.loop-version.invariant.after c.in_ok-actions.ensures.after;
+      count = omega (arith, c.loop-version.invariant.count, c.in_ok-push.ensures.len);
+      actions =
+          λ t. rw (c.in_ok-push.ensures.items, c.in_ok-push.ensures.len)
+          (winners_step _ _ _ _ _ _ _ c.loop-version.invariant.count c.in_ok-actions.ensures.reads (omega (arith, c.loop-version-test.true, now.count))
+          (c.in_ok-actions.ensures.actions t) (c.loop-version.invariant.actions t));
+    }
+
+pub returns-clause-actions : goal.returns-clause-actions
+returns-clause-actions g c = λ t.
+    let now = catalogue_kept _ _ _ _ c.loop-version.invariant.reads c.loop-version.invariant.grows.published c.requires.catalogue in
+    c.loop-version.invariant.actions t ∙ winners_all (g.T.Steps.known c.loop-version.caller).seen (c.args.after + 1) (vec_len c.loop-version.winners) (omega (arith, c.loop-version.invariant.count, c.loop-version-test.false, now.count))
+
+pub version_actions-requires-clause-sound : goal.version_actions-requires-clause-sound
+version_actions-requires-clause-sound g c = sound_kept _ _ _ _ c.loop-version.invariant.reads c.requires.sound

@@ -1,0 +1,48 @@
+use Rattle.std.proofs.Common.{rules, ◌≡◌, ℕ, take, arith, ◌∙◌, subst}
+use Rattle.reconcile.specs.Standing.{StandsFor}
+use Rattle.table_model.specs.Log.{history}
+use Rattle.table_model.proofs.Growing.{grows_trans}
+use Rattle.snapshot_load.specs.Causes.{ReadCause}
+use Rattle.snapshot_load.proofs.Causing.{cause_later}
+use Rattle.snapshot_load.proofs.Replaying.{reads_version, catalogue_kept, replayed_more, replayed_all, sound_kept, state_time}
+use Rattle.snapshot_load.proofs.loads.replay.Goals as goal
+
+pub version_actions-requires-clause-place : goal.version_actions-requires-clause-place
+version_actions-requires-clause-place g c =
+    c.place_of.ensures g.T.Steps.tells _
+    (catalogue_kept _ _ _ _ c.loop-version.invariant.reads c.loop-version.invariant.grows.published c.requires.catalogue)
+    (λ t. omega (arith, c.requires.listed t, c.loop-version.invariant.grows.published))
+
+pub returns-in_err-actions-clause-cause : goal.returns-in_err-actions-clause-cause
+returns-in_err-actions-clause-cause g c =
+    let i : ReadCause g.T.Steps.tells c.in_err-actions.field-0.0 (g.T.Steps.known c.args.caller.now) (g.T.Steps.known c.version_actions.new.caller) =
+    cause_later _ _ _ _ _ c.loop-version.invariant.grows c.in_err-actions.ensures.cause in
+    search rules
+
+pub loop-version-preserved : goal.loop-version-preserved
+loop-version-preserved g c =
+    let now = catalogue_kept _ _ _ _ c.loop-version.invariant.reads c.loop-version.invariant.grows.published c.requires.catalogue in
+    record {
+      reads = reads_version _ _ _ _ c.loop-version.invariant.reads c.in_ok-actions.ensures.reads;
+      grows = grows_trans _ _ _ c.loop-version.invariant.grows c.in_ok-actions.ensures.grows;
+      valid = c.in_ok-actions.ensures.valid;
+      after = g.met.T.Steps.after_both _ _ _ c.loop-version.invariant.after c.in_ok-actions.ensures.after;
+      state =
+          λ t. replayed_more _ _ _ _ _ c.in_ok-actions.ensures.reads (omega (arith, c.loop-version-test.true, now.count))
+          (c.as_slice.ensures.value ∙ c.in_ok-actions.ensures.actions t) (c.in_ok-state.ensures.stands _ (c.loop-version.invariant.state t));
+    }
+
+pub returns-clause-time : goal.returns-clause-time
+returns-clause-time g c = λ t some.
+    let now = catalogue_kept _ _ _ _ c.loop-version.invariant.reads c.loop-version.invariant.grows.published c.requires.catalogue in
+    let end : c.loop-version.version ≡ c.args.commits.now.count = omega (arith, c.loop-version-test.false, c.loop-version.auto.version-end) in
+    state_time c.loop-version.state (g.T.Steps.known c.loop-version.caller).seen c.args.commits.now.count some (omega (arith, now.count))
+    (subst (λ (n : ℕ). StandsFor c.loop-version.state (history (take n (g.T.Steps.known c.loop-version.caller).seen))) end (c.loop-version.invariant.state t))
+
+pub version_actions-requires-clause-sound : goal.version_actions-requires-clause-sound
+version_actions-requires-clause-sound g c = sound_kept _ _ _ _ c.loop-version.invariant.reads c.requires.sound
+
+pub returns-clause-state : goal.returns-clause-state
+returns-clause-state g c = λ t.
+    let now = catalogue_kept _ _ _ _ c.loop-version.invariant.reads c.loop-version.invariant.grows.published c.requires.catalogue in
+    replayed_all _ _ c.loop-version.version (omega (arith, c.loop-version-test.false, now.count)) (c.loop-version.invariant.state t)

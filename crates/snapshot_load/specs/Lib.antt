@@ -1,0 +1,4 @@
+pub mod Converting
+pub mod Causes
+pub mod Reading
+pub mod Snapshots

@@ -1,0 +1,234 @@
+//! What a create composes.
+ghost use Rattle.std.specs.Prelude.{◌≡◌, pos, ◌≤ℤ◌, [], ◌∷◌, ◌++◌, IfErr, IfOk, None, OnOk, Some, codes, filter};
+ghost use Rattle.action_json.specs.Commit.{IsCommit};
+ghost use Rattle.log_names.specs.Texts.{uuid_text};
+ghost use Rattle.table_rules.specs.Broken.{first_broken, timestamps_property};
+ghost use Rattle.table_rules.specs.Features.{shared_features};
+ghost use Rattle.table_rules.specs.Texts.{names_have};
+ghost use Rattle.staged_commit.specs.Answers.{IsComposed, IsRefused};
+ghost use Rattle.staged_commit.specs.Composed.{IsCreate, composed_create, features_for, info_for, meta_for, parquet_format, protocol_for};
+
+use crate::fault::ComposeError;
+use action_json::write_commit;
+use action_types::{Action, Format, Info, Meta, Name, Names, Pairs, Protocol};
+use std::alloc::{AllocError, Global};
+use table_rules::{Broken, check_create};
+use uuid::Uuid;
+
+/// A table that a caller wants made.
+#[derive(PartialEq, Eq, Debug, Drop)]
+pub struct Create {
+    /// The id of the table.
+    pub id: Name,
+    pub name: Option<Name>,
+    pub description: Option<Name>,
+    /// The schema as a JSON text, which is not read.
+    pub schema: Name,
+    /// The partition columns.
+    pub partition: Names,
+    /// The table properties: each has a text, in byte order of their names.
+    pub configuration: Pairs,
+    /// The table features; where there are none, those of checkpoints.
+    pub features: Option<Names>,
+}
+
+/// A commit that was composed.
+#[derive(Drop)]
+pub struct Composed {
+    /// The canonical text of the actions.
+    pub bytes: Vec<u8>,
+    pub actions: Vec<Action>,
+    /// The in-commit timestamp, in milliseconds since 1970 UTC.
+    pub time: i64,
+}
+
+/// The commit that makes a table, at the time `now` in milliseconds since 1970 UTC, from 0, and under the id of its staged file.
+///
+/// `Broken` names the first rule that its actions break as the first commit of a table; `TooLarge` comes exactly where none is
+/// broken and its text has more bytes than the limit. `TimeEnd` never comes. A create that names features or a configuration is
+/// not composed yet.
+pub fn compose_create(
+    alloc: Global,
+    create: &Create,
+    id: u128,
+    now: i64,
+    limit: u64,
+) -> Result<Composed, ComposeError>
+    requires now { pos 0 ≤ℤ now }
+    requires valid { IsCreate create.now }
+    ensures ok { IfOk result (λ c. IsComposed [] (composed_create create.now id now) now limit c) }
+    ensures err { IfErr result (λ e. IsRefused [] (composed_create create.now id now) limit e) }
+{
+    let actions = actions_of(alloc, create, id, now)?;
+    checked(alloc, actions, now, limit)
+}
+
+/// The commit of these actions, if it may be the first of a table and its text is within the limit.
+fn checked(
+    alloc: Global,
+    actions: Vec<Action>,
+    time: i64,
+    limit: u64,
+) -> Result<Composed, ComposeError>
+    requires { IsCommit actions.items }
+    ensures ok { IfOk result (λ c. IsComposed [] actions.items time limit c) }
+    ensures err { IfErr result (λ e. IsRefused [] actions.items limit e) }
+{
+    match check_create(alloc, &actions) {
+        Ok(()) => written(alloc, actions, time, limit),
+        Err(Broken::Memory) => Err(ComposeError::Memory),
+        Err(broken) => Err(ComposeError::Broken(broken)),
+    }
+}
+
+/// The same for actions that break no rule.
+fn written(
+    alloc: Global,
+    actions: Vec<Action>,
+    time: i64,
+    limit: u64,
+) -> Result<Composed, ComposeError>
+    requires commit { IsCommit actions.items }
+    requires rules { first_broken [] actions.items ≡ None }
+    ensures ok { IfOk result (λ c. IsComposed [] actions.items time limit c) }
+    ensures err { IfErr result (λ e. IsRefused [] actions.items limit e) }
+{
+    let bytes = write_commit(alloc, &actions)?;
+    let length = bytes.len() as u64;
+    if length > limit {
+        return Err(ComposeError::TooLarge { bytes: length });
+    }
+    Ok(Composed {
+        bytes,
+        actions,
+        time,
+    })
+}
+
+/// The actions of the commit.
+#[tactic(auto, unfolding(crate::specs::Composed::composed_create))]
+fn actions_of(alloc: Global, create: &Create, id: u128, now: i64) -> Result<Vec<Action>, AllocError>
+    requires { IsCreate create.now }
+    ensures { IfOk result (λ v. v.items ≡ composed_create create.now id now) }
+{
+    let info = info_at(alloc, id, now)?;
+    let protocol = first_protocol(alloc)?;
+    let meta = first_meta(alloc, create, now)?;
+    let mut actions = Vec::new(alloc);
+    actions.push(Action::Info(info))?;
+    actions.push(Action::Protocol(protocol))?;
+    actions.push(Action::Meta(meta))?;
+    Ok(actions)
+}
+
+/// The commitInfo of a commit that is staged under an id.
+#[tactic(auto, unfolding(log_names::specs::Texts::uuid_text))]
+fn info_at(alloc: Global, id: u128, time: i64) -> Result<Info, AllocError>
+    ensures { IfOk result (λ i. i ≡ info_for id time) }
+{
+    let mut buffer = Uuid::encode_buffer();
+    let txn_id = Name::from_str(
+        alloc,
+        Uuid::from_u128(id).hyphenated().encode_lower(&mut buffer),
+    )?;
+    Ok(Info {
+        time,
+        txn_id: Some(txn_id),
+    })
+}
+
+/// The protocol of a create that names no features.
+fn first_protocol(alloc: Global) -> Result<Protocol, AllocError>
+    ensures { IfOk result (λ p. p ≡ protocol_for None) }
+{
+    let reader_features = reader_features(alloc)?;
+    let writer_features = writer_features(alloc)?;
+    Ok(Protocol {
+        reader: 3,
+        writer: 7,
+        reader_features: Some(reader_features),
+        writer_features: Some(writer_features),
+    })
+}
+
+fn reader_features(alloc: Global) -> Result<Names, AllocError>
+    ensures { IfOk result (λ n. n ≡ filter (names_have shared_features) (features_for None)) }
+{
+    let mut names = Names::new(alloc);
+    add(alloc, &mut names, "catalogManaged")?;
+    add(alloc, &mut names, "v2Checkpoint")?;
+    add(alloc, &mut names, "vacuumProtocolCheck")?;
+    Ok(names)
+}
+
+fn writer_features(alloc: Global) -> Result<Names, AllocError>
+    ensures { IfOk result (λ n. n ≡ features_for None) }
+{
+    let mut names = Names::new(alloc);
+    add(alloc, &mut names, "catalogManaged")?;
+    add(alloc, &mut names, "inCommitTimestamp")?;
+    add(alloc, &mut names, "v2Checkpoint")?;
+    add(alloc, &mut names, "vacuumProtocolCheck")?;
+    Ok(names)
+}
+
+fn add(alloc: Global, names: &mut Names, name: &str) -> Result<(), AllocError>
+    ensures { OnOk result (names.new ≡ names.old ++ name.now ∷ []) }
+{
+    names.push(Name::from_str(alloc, name)?)
+}
+
+/// The metaData of the table; refused for want of memory alone.
+fn first_meta(alloc: Global, create: &Create, time: i64) -> Result<Meta, AllocError>
+    requires { IsCreate create.now }
+    ensures { IfOk result (λ m. m ≡ meta_for create.now time) }
+{
+    let configuration = first_configuration(alloc)?;
+    let description = copied(&create.description)?;
+    let format = parquet(alloc)?;
+    let id = create.id.copy()?;
+    let name = copied(&create.name)?;
+    let columns = create.partition.copy()?;
+    let schema = create.schema.copy()?;
+    Ok(Meta {
+        configuration,
+        created: Some(time),
+        description,
+        format,
+        id,
+        name,
+        columns,
+        schema,
+    })
+}
+
+/// The one property that every table has.
+fn first_configuration(alloc: Global) -> Result<Pairs, AllocError>
+    ensures { IfOk result (λ ps. ps ≡ (timestamps_property, Some (codes "true")) ∷ []) }
+{
+    let mut pairs = Pairs::new(alloc);
+    let name = Name::from_str(alloc, "delta.enableInCommitTimestamps")?;
+    let value = Name::from_str(alloc, "true")?;
+    pairs.push(name, Some(value))?;
+    Ok(pairs)
+}
+
+fn parquet(alloc: Global) -> Result<Format, AllocError>
+    ensures { IfOk result (λ f. f ≡ parquet_format) }
+{
+    let provider = Name::from_str(alloc, "parquet")?;
+    Ok(Format {
+        provider,
+        options: Pairs::new(alloc),
+    })
+}
+
+/// An equal text, or none; refused for want of memory alone.
+fn copied(text: &Option<Name>) -> Result<Option<Name>, AllocError>
+    ensures { IfOk result (λ n. n ≡ text.now) }
+{
+    match text {
+        None => Ok(None),
+        Some(text) => Ok(Some(text.copy()?)),
+    }
+}

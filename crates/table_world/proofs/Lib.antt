@@ -1,0 +1,5 @@
+pub mod StoreTurns
+pub mod Kept
+pub mod Fresh
+pub mod TurnNotes
+pub mod Marks

@@ -1,0 +1,5 @@
+pub mod Worlds
+pub mod Starting
+pub mod Noted
+pub mod Noting
+pub mod Done

@@ -1,0 +1,27 @@
+-- The catalogue and the store of a world, as its plain data.
+use Rattle.std.specs.Prelude.{◌≡◌, ◌<◌, ◌≤◌, ◌-◌, ◌≢◌, ◌⊎◌, ℕ, Bool, IsTrue, List, [], length, find, Option, Some, None, Result, Ok, Err}
+use Rattle.commit_catalog.specs.Records.{CatalogData, IsWithinLimits}
+use Rattle.commit_catalog.specs.declared.Limits.{Limits}
+use Rattle.commit_catalog.specs.declared.Entry.{Entry}
+use Rattle.log_names.specs.declared.LogName.{LogName}
+use Rattle.log_names.specs.Reading.{name_of}
+use Rattle.object_store.specs.Files.{Files, names_of}
+use Rattle.table_model.specs.World.{WorldData, entry_at}
+use Rattle.table_model.specs.Turns.{is_log_name}
+
+-- `first` is the store's count of faults when the world was made
+abbrev pub world_of : CatalogData → Files → ℕ → ℕ → Bool → WorldData
+world_of c files faults first tells =
+    record { records = c.records; reported = c.reported; limits = c.limits; files = files; tally = faults - first; tells = tells }
+
+-- the version has this id in the catalogue
+abbrev pub IsRecordedUnder : List Entry → ℕ → ℕ → Type 0
+IsRecordedUnder records version id = (version < length records) × ((entry_at records version).id ≡ id)
+
+-- a world without commits
+abbrev pub fresh_world : Limits → Files → Bool → WorldData
+fresh_world limits files tells = record { records = []; reported = 0; limits = limits; files = files; tally = 0; tells = tells }
+
+-- the least name in byte order that is a name of the log
+abbrev pub first_log_name : List (List ℕ) → Option (List ℕ)
+first_log_name texts = find (λ text. is_log_name (name_of text)) texts
