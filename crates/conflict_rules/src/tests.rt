@@ -2,6 +2,7 @@ use super::*;
 use action_types::{Action, Add, Format, Info, Meta, Name, Names, Pairs, Protocol, Remove, Txn};
 use reconcile::State;
 use std::alloc::Global;
+use std::slice;
 use std::test::Fail;
 
 /// An add of a file.
@@ -192,32 +193,12 @@ fn serializable_conflicts(rt: HostRuntime) -> Result<(), Fail> {
     Ok(())
 }
 
-/// What the first conflict of an intent with these winners says, after the place of the winner.
-fn lowest(alloc: Global, texts: &[&str]) -> Result<String, Fail> {
-    let mut winners = Vec::new(alloc);
-    for text in texts {
-        winners.push(commit(alloc, text)?)?;
-    }
-    let intent = intent(alloc, Level::WriteSerializable, "b", "a")?;
-    let base = base(alloc)?;
-    match first_conflict_of(&intent, &base, winners.as_slice()) {
-        None => Ok(String::from_str(alloc, "")?),
-        Some(found) => {
-            let place = found.place;
-            let key = found.clash.key;
-            Ok(format!(in alloc; "{place} {key}")?)
-        }
-    }
-}
-
 #[test]
 fn first_winner_is_named(rt: HostRuntime) -> Result<(), Fail> {
-    let none = lowest(rt.alloc(), &["info; add x", "info; remove c"])?;
-    assert_eq!(rt; none.as_str(), "");
-    let second = lowest(
-        rt.alloc(),
-        &["info; add x", "info; remove b; remove a", "info; meta"],
-    )?;
-    assert_eq!(rt; second.as_str(), "1 a");
+    let alloc = rt.alloc();
+    let intent = intent(alloc, Level::WriteSerializable, "b", "a")?;
+    let winner = commit(alloc, "info; remove b; remove a")?;
+    let lowest = first_conflict_of(&intent, &base(alloc)?, slice::from_ref(&winner));
+    assert_eq!(rt; lowest.map_or(1, |lowest| lowest.place), 0);
     Ok(())
 }
