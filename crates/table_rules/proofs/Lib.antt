@@ -1,3 +1,3 @@
 pub mod Order
-pub mod Tests
+pub mod TextTests
 pub mod Views

@@ -1,4 +1,4 @@
-use Rattle.table_rules.proofs.Tests.{contains_text-contains}
+use Rattle.table_rules.proofs.TextTests.{contains_text-contains}
 use Rattle.table_rules.proofs.texts.contains_text.Goals as goal
 
 pub returns : goal.returns
