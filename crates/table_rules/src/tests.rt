@@ -4,11 +4,11 @@ use std::test::Fail;
 
 const BASE: &str = "info 1000; protocol; meta; add a; add b; txn A 2; txn B 7";
 
-/// Texts of a line as a list of names.
-fn names(alloc: Global, texts: &[&str]) -> Result<Names, Fail> {
+/// The words of a text as a list of names.
+fn names(alloc: Global, text: &str) -> Result<Names, Fail> {
     let mut list = Names::new(alloc);
-    for text in texts {
-        list.push(Name::from_str(alloc, text)?)?;
+    for word in text.split_whitespace() {
+        list.push(Name::from_str(alloc, word)?)?;
     }
     Ok(list)
 }
@@ -17,8 +17,8 @@ fn names(alloc: Global, texts: &[&str]) -> Result<Names, Fail> {
 fn protocol(
     alloc: Global,
     versions: (i64, i64),
-    readers: &[&str],
-    writers: &[&str],
+    readers: &str,
+    writers: &str,
 ) -> Result<Protocol, Fail> {
     Ok(Protocol {
         reader: versions.0,
@@ -109,18 +109,11 @@ fn action(alloc: Global, text: &str) -> Result<Action, Fail> {
             time: number(first),
             txn_id: None,
         })),
-        "protocol" if first.is_empty() => Ok(Action::Protocol(protocol(
-            alloc,
-            (3, 7),
-            &["catalogManaged"],
-            &["catalogManaged", "inCommitTimestamp"],
-        )?)),
-        "protocol" => Ok(Action::Protocol(protocol(
-            alloc,
-            (3, 7),
-            &["catalogManaged"],
-            &["catalogManaged", "inCommitTimestamp", first],
-        )?)),
+        "protocol" => {
+            let writers = format!(in alloc; "catalogManaged inCommitTimestamp {first}")?;
+            let protocol = protocol(alloc, (3, 7), "catalogManaged", writers.as_str())?;
+            Ok(Action::Protocol(protocol))
+        }
         "meta" => Ok(Action::Meta(meta(alloc, first, second)?)),
         "txn" => Ok(Action::Txn(Txn {
             app: Name::from_str(alloc, first)?,
@@ -272,56 +265,27 @@ fn next_commits(rt: HostRuntime) -> Result<(), Fail> {
 
 #[test]
 fn features(rt: HostRuntime) -> Result<(), Fail> {
-    let both = ["catalogManaged", "v2Checkpoint", "vacuumProtocolCheck"];
-    let all = [
-        "catalogManaged",
-        "inCommitTimestamp",
-        "v2Checkpoint",
-        "vacuumProtocolCheck",
-        "appendOnly",
-        "invariants",
-    ];
-    let one = ["catalogManaged"];
-    let two = ["catalogManaged", "inCommitTimestamp"];
-    let mapped = ["columnMapping"];
-    let checkpoint = ["v2Checkpoint", "catalogManaged"];
-    let timestamp = ["inCommitTimestamp"];
-    let none: [&str; 0] = [];
+    let both = "catalogManaged v2Checkpoint vacuumProtocolCheck";
+    let all = "catalogManaged inCommitTimestamp v2Checkpoint vacuumProtocolCheck appendOnly invariants";
+    let one = "catalogManaged";
+    let two = "catalogManaged inCommitTimestamp";
+    let mapped = "columnMapping";
+    let timestamp = "inCommitTimestamp";
     let rows = [
-        ((3, 7), both.as_slice(), all.as_slice(), ""),
-        ((3, 7), one.as_slice(), two.as_slice(), ""),
-        ((2, 7), one.as_slice(), two.as_slice(), "minReaderVersion"),
-        ((3, 8), one.as_slice(), two.as_slice(), "minWriterVersion"),
-        (
-            (3, 7),
-            mapped.as_slice(),
-            mapped.as_slice(),
-            "columnMapping",
-        ),
-        ((3, 7), two.as_slice(), two.as_slice(), "inCommitTimestamp"),
-        (
-            (3, 7),
-            checkpoint.as_slice(),
-            two.as_slice(),
-            "v2Checkpoint",
-        ),
-        (
-            (3, 7),
-            one.as_slice(),
-            timestamp.as_slice(),
-            "catalogManaged",
-        ),
-        (
-            (3, 7),
-            none.as_slice(),
-            timestamp.as_slice(),
-            "catalogManaged",
-        ),
-        ((3, 7), one.as_slice(), one.as_slice(), "inCommitTimestamp"),
+        (3, 7, both, all, ""),
+        (3, 7, one, two, ""),
+        (2, 7, one, two, "minReaderVersion"),
+        (3, 8, one, two, "minWriterVersion"),
+        (3, 7, mapped, mapped, "columnMapping"),
+        (3, 7, two, two, "inCommitTimestamp"),
+        (3, 7, "v2Checkpoint catalogManaged", two, "v2Checkpoint"),
+        (3, 7, one, timestamp, "catalogManaged"),
+        (3, 7, "", timestamp, "catalogManaged"),
+        (3, 7, one, one, "inCommitTimestamp"),
     ];
     let alloc = rt.alloc();
-    for (versions, readers, writers, wanted) in rows {
-        let protocol = protocol(alloc, versions, readers, writers)?;
+    for (reader, writer, readers, writers, wanted) in rows {
+        let protocol = protocol(alloc, (reader, writer), readers, writers)?;
         let faulty = crate::features::faulty_feature(&protocol).unwrap_or("");
         assert_eq!(rt; faulty, wanted);
     }

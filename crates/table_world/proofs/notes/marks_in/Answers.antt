@@ -1,4 +1,4 @@
-use Rattle.std.proofs.Common.{◌≡◌, ◌++◌, ◌∷◌, [], sym, ◌∙◌, ap}
+use Rattle.std.proofs.Common.{◌++◌, ◌∷◌, [], sym, ◌∙◌, ap}
 use Rattle.table_world.proofs.Marks.{marks_none, marks_some}
 use Rattle.table_world.proofs.notes.marks_in.Goals as goal
 

@@ -1,6 +1,4 @@
-use Rattle.std.proofs.Common.{◌≡◌, ◌≤◌, ℕ, refl}
-use Rattle.log_names.specs.declared.LogName.TheVariants as name
-use Rattle.commit_catalog.specs.Records.{CatalogData}
+use Rattle.std.proofs.Common.{refl}
 use Rattle.table_world.proofs.StoreTurns.{text_of, publish_answer, put_failed}
 use Rattle.table_world.proofs.store_turns.publish_file.Goals as goal
 

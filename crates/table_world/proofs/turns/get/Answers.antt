@@ -1,8 +1,6 @@
-use Rattle.std.proofs.Common.{◌≡◌, ◌≤◌, ℕ, refl, sym, ◌∙◌, subst, ap, arith}
-use Rattle.std.specs.Prelude.{max, ◌++◌, ◌∷◌, [], ◌+◌}
+use Rattle.std.proofs.Common.{ℕ, refl, ◌∙◌, ap}
 use Rattle.table_model.specs.Knowledge.{Knowledge}
-use Rattle.table_model.specs.Learned.{list_learned, stage_learned, publish_learned, report_learned, clear_learned}
-use Rattle.table_world.specs.Noting.{answer_noted, ratify_noted, is_seen_name}
+use Rattle.table_world.specs.Noting.{answer_noted, is_seen_name}
 use Rattle.table_model.specs.World.{log_of}
 use Rattle.table_world.proofs.TurnNotes.{refused, refused_same, get_done, get_same}
 use Rattle.std.specs.Prelude.{take}

@@ -1,8 +1,4 @@
-use Rattle.std.proofs.Common.{◌≡◌, ◌≤◌, ℕ, refl, sym, ◌∙◌, subst, ap, arith}
-use Rattle.std.specs.Prelude.{max, ◌++◌, ◌∷◌, [], ◌+◌}
-use Rattle.table_model.specs.Knowledge.{Knowledge}
-use Rattle.table_model.specs.Learned.{list_learned, stage_learned, publish_learned, report_learned, clear_learned}
-use Rattle.table_world.specs.Noting.{answer_noted, ratify_noted}
+use Rattle.std.proofs.Common.{refl, ◌∙◌}
 use Rattle.table_world.proofs.TurnNotes.{refused, refused_by, ratify_done, ratify_noted_as}
 use mir.Syntax.{w64}
 use Rattle.std.proofs.lemmas.Int.{to_z-of_z}

@@ -1,10 +1,5 @@
-use Rattle.std.proofs.Common.{◌≡◌, ◌≤◌, ℕ, refl, sym, ◌∙◌, subst, ap, arith}
-use Rattle.std.specs.Prelude.{max, ◌++◌, ◌∷◌, [], ◌+◌}
-use Rattle.table_model.specs.Knowledge.{Knowledge}
-use Rattle.table_model.specs.Learned.{list_learned, stage_learned, publish_learned, report_learned, clear_learned}
-use Rattle.table_world.specs.Noting.{answer_noted, ratify_noted}
+use Rattle.std.proofs.Common.{refl, ◌∙◌}
 use Rattle.table_world.proofs.TurnNotes.{refused, stage_done, stage_learned_as}
-use Rattle.std.specs.Prelude.{List}
 use Rattle.table_world.proofs.turns.stage.Goals as goal
 
 pub returns-in-Err : goal.returns-in-Err

@@ -1,4 +1,4 @@
-use Rattle.std.proofs.Common.{◌≡◌, ◌≤◌, List, ℕ, length, ap, sym, ◌∙◌, subst}
+use Rattle.std.proofs.Common.{◌≡◌, ◌≤◌, List, ℕ, length, sym, ◌∙◌, subst}
 use Rattle.table_world.proofs.Fresh.{log_name_short}
 use Rattle.table_world.proofs.world.least_log_name.Goals as goal
 

@@ -1,4 +1,4 @@
-use Rattle.table_world.proofs.TurnNotes.{starts_as, known_at_start}
+use Rattle.table_world.proofs.TurnNotes.{known_at_start}
 use Rattle.table_world.proofs.solo.Solo.new.Goals as goal
 
 pub invariant_of-result : goal.invariant_of-result

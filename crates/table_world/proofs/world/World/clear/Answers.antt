@@ -1,5 +1,4 @@
-use Rattle.std.proofs.Common.{◌≡◌, ◌≤◌, ℕ, refl, sym, ◌∙◌, subst, ap, arith}
-use Rattle.std.specs.Prelude.{Ok}
+use Rattle.std.proofs.Common.{sym, subst, arith}
 use Rattle.table_model.specs.World.{WorldData}
 use Rattle.table_world.proofs.Kept.{kept_clear, Clearable}
 use Rattle.table_world.proofs.world.World.clear.Goals as goal

@@ -1,5 +1,4 @@
-use Rattle.std.proofs.Common.{◌≡◌, ◌≤◌, ℕ, refl, sym, ◌∙◌, subst, ap, arith}
-use Rattle.table_model.specs.World.{WorldData}
+use Rattle.std.proofs.Common.{arith}
 use Rattle.table_world.proofs.Kept.{kept_get}
 use Rattle.table_world.proofs.world.World.get.Goals as goal
 

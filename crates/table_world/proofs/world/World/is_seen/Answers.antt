@@ -1,7 +1,6 @@
-use Rattle.std.proofs.Common.{◌≡◌, ◌≤◌, ℕ, length, sym, subst, IsTrue}
+use Rattle.std.proofs.Common.{◌≡◌, sym, subst, IsTrue}
 use Rattle.std.specs.Prelude.{take}
 use Rattle.log_names.specs.declared.LogName.{LogName}
-use Rattle.log_names.specs.declared.LogName.TheVariants as name
 use Rattle.table_model.specs.World.{WorldData, log_of}
 use Rattle.table_world.specs.Worlds.{IsRecordedUnder}
 use Rattle.table_world.specs.Noting.{is_seen_name}

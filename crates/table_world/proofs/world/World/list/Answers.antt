@@ -1,5 +1,4 @@
-use Rattle.std.proofs.Common.{◌≡◌, ◌≤◌, ℕ, refl, sym, ◌∙◌, subst, ap, arith}
-use Rattle.table_model.specs.World.{WorldData}
+use Rattle.std.proofs.Common.{arith}
 use Rattle.table_world.proofs.Kept.{kept_list}
 use Rattle.table_world.proofs.world.World.list.Goals as goal
 

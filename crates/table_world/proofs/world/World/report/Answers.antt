@@ -1,4 +1,4 @@
-use Rattle.std.proofs.Common.{◌≡◌, ◌≤◌, ℕ, refl, sym, ◌∙◌, subst, ap, arith}
+use Rattle.std.proofs.Common.{sym, subst}
 use Rattle.std.specs.Prelude.{Ok}
 use Rattle.table_model.specs.World.{WorldData}
 use Rattle.table_world.proofs.Kept.{kept_report, Reportable, reportable_below, catalog_reported}

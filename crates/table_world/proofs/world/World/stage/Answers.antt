@@ -1,6 +1,4 @@
-use Rattle.std.proofs.Common.{◌≡◌, ◌≤◌, ℕ, refl, sym, ◌∙◌, subst, ap, arith}
-use Rattle.std.specs.Prelude.{Ok}
-use Rattle.table_model.specs.World.{WorldData}
+use Rattle.std.proofs.Common.{arith}
 use Rattle.table_world.proofs.Kept.{kept_stage, not_recorded}
 use Rattle.table_world.proofs.world.World.stage.Goals as goal
 

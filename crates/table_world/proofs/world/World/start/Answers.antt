@@ -1,5 +1,4 @@
-use Rattle.std.proofs.Common.{◌≡◌, ◌≤◌, ap, sym, ◌∙◌, subst, arith}
-use Rattle.std.specs.Prelude.{None}
+use Rattle.std.proofs.Common.{ap, sym, ◌∙◌, subst}
 use Rattle.table_model.specs.World.{WorldData}
 use Rattle.table_model.specs.Consistency.{IsConsistent}
 use Rattle.table_world.specs.Worlds.{first_log_name}
