@@ -1,9 +1,9 @@
 -- The text of an object by its members, one after another.
-use Rattle.std.proofs.Common.{◌≡◌, ℕ, List, [], ◌∷◌, ◌++◌, Bool, true, false, Option, Some, None, refl, sym, ap, ap₂, ◌∙◌, append_assoc, append-nil, Ok, Err, OnOk, Result}
+use Rattle.std.proofs.Common.{◌≡◌, ℕ, List, [], ◌∷◌, ◌++◌, Bool, true, Option, Some, None, refl, sym, ap, ap₂, ◌∙◌, append_assoc, append-nil, Ok, Err, OnOk, Result}
 use Rattle.json.specs.Print.{print, print_from, quoted}
 use Rattle.json.specs.Token.{Token}
 use Rattle.json.specs.Written.{Written}
-use Rattle.serde_json.specs.Data.{Data, object, Items, item, no_items}
+use Rattle.serde_json.specs.Data.{Data, object, Items, item}
 use Rattle.serde_json.specs.Written.{comma_if, compact_text, items_text, members_text}
 use Rattle.serde_json.proofs.Texts.{print-outline}
 use Rattle.action_fields.specs.Canonical.{Fields, with_field, with_fields}

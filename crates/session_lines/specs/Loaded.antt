@@ -1,12 +1,9 @@
 -- The text of Loaded in parts, for private clauses.
-use Rattle.std.specs.Prelude.{ℕ, List, [], ◌∷◌, ◌++◌, codes, Option, Some, None, map}
+use Rattle.std.specs.Prelude.{ℕ, List, [], ◌∷◌, ◌++◌, Option, Some, None}
 use Rattle.json.specs.Print.{quoted}
 use Rattle.serde_json.specs.Data.{Data}
 use Rattle.serde_json.specs.Written.{compact_text}
-use Rattle.action_types.specs.declared.actions.Action.TheVariants as action
 use Rattle.action_fields.specs.Canonical.{Fields}
-use Rattle.reconcile.specs.declared.state.State.{State}
-use Rattle.reconcile.specs.Standing.{files_in}
 
 -- a name and its colon, with the comma before it
 unfoldable pub name_text : List ℕ → List ℕ

@@ -1,4 +1,4 @@
-use Rattle.std.proofs.Common.{◌≡◌, ◌++◌, ◌∷◌, [], ℤ, List, ℕ, codes, ap, ap₂, sym, ◌∙◌, w64}
+use Rattle.std.proofs.Common.{◌++◌, ◌∷◌, [], ℤ, List, ℕ, codes, ap, ap₂, sym, ◌∙◌, w64}
 use Rattle.std.proofs.lemmas.Int.{to_z-of_z}
 use Rattle.session_lines.specs.Loaded.{first_member, later_members}
 use Rattle.session_lines.specs.Replies.{end_fields, files_data, table_fields}

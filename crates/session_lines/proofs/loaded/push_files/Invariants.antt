@@ -1,4 +1,4 @@
-use Rattle.std.proofs.Common.{◌≡◌, ◌++◌, true, false, map}
+use Rattle.std.proofs.Common.{◌≡◌, ◌++◌, false, map}
 use Rattle.serde_json.specs.Written.{items_text}
 use Rattle.action_types.specs.declared.actions.Action.TheVariants as action
 use Rattle.reconcile.specs.Standing.{files_in}

@@ -1,9 +1,9 @@
-use Rattle.std.proofs.Common.{◌≡◌, Bool, true, false, refl, sym, ap, ◌∙◌, string_bytes}
+use Rattle.std.proofs.Common.{◌≡◌, false, refl, sym, ap, ◌∙◌, string_bytes}
 use Rattle.std.specs.Map.Iter.{deref_pair}
 use Rattle.std.proofs.lemmas.Map.Iter.{rest_more}
 use Rattle.serde_json.specs.View.{view}
 use Rattle.session_lines.specs.Members.{is_other}
-use Rattle.session_lines.proofs.Steps.{other-found, other-passed}
+use Rattle.session_lines.proofs.Steps.{other-passed}
 use Rattle.session_lines.proofs.reading.other_member.Goals as goal
 
 pub loop-name-init : goal.loop-name-init
