@@ -1,5 +1,5 @@
 -- A request that was read can be composed.
-use Rattle.std.proofs.Common.{◌≡◌, ℕ, List, [], ◌∷◌, Bool, true, false, ◌&&◌, All, Option, Some, None, IfSome, IfOk, option_map, option_and_then, codes, Result, Ok, Err, if◌then◌else◌, unwrap_or, is_some, refl, subst}
+use Rattle.std.proofs.Common.{◌≡◌, ℕ, List, [], ◌∷◌, Bool, true, false, Option, Some, None, IfSome, IfOk, option_map, option_and_then, codes, Result, Ok, Err, if◌then◌else◌, unwrap_or, is_some, refl, subst}
 use Rattle.std.specs.Ordering.{nat_cmp, match_ordering}
 use Rattle.std.specs.declared.cmp.Ordering.{Ordering}
 use Rattle.std.specs.declared.cmp.Ordering.TheVariants.{Less, Equal, Greater}
@@ -8,7 +8,7 @@ use Rattle.std.specs.Str.{is_utf8}
 use Rattle.std.specs.List.{list_all}
 use Rattle.std.proofs.lemmas.Bool.{and_parts, and_from}
 use Rattle.serde_json.specs.Data.{Data, null, boolean, number, string, array, object, Items, no_items, item, Members, no_members, member}
-use Rattle.serde_json.specs.Find.{as_array, as_null, as_object, get, get_member}
+use Rattle.serde_json.specs.Find.{as_null, as_object, get, get_member}
 use Rattle.serde_json.specs.Read.{read}
 use Rattle.action_types.specs.declared.actions.Action.{Action}
 use Rattle.action_types.specs.declared.actions.Action.TheVariants as action
@@ -24,7 +24,7 @@ use Rattle.action_fields.proofs.Reading.{ordered-read}
 use Rattle.session_lines.specs.declared.fault.BadLine.{BadLine}
 use Rattle.session_lines.specs.Faults.{told}
 use Rattle.session_lines.specs.Members.{adds_in, as_add, files, files_or_none, have_own_paths, if_own_paths, other_member, schema}
-use Rattle.session_lines.specs.Requests.{IsRequest, IsIntent, create_of, members_say, op_in, op_request, or_field, or_why, request_of, text_request, unless_other, value_request, write_of}
+use Rattle.session_lines.specs.Requests.{IsRequest, create_of, members_say, op_in, op_request, or_field, or_why, request_of, text_request, unless_other, value_request, write_of}
 use Rattle.session_lines.specs.declared.op.Op.{Op}
 use Rattle.session_lines.specs.declared.op.Op.TheVariants as op
 use Rattle.session_lines.specs.declared.fault.LineWhy.{LineWhy}

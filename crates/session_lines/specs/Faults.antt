@@ -1,5 +1,5 @@
 -- The reason that an error names; none for want of memory.
-use Rattle.std.specs.Prelude.{ℕ, List, Option, Some, None}
+use Rattle.std.specs.Prelude.{Option, Some, None}
 use Rattle.action_fields.specs.declared.fault.BadBody.{BadBody}
 use Rattle.action_fields.specs.declared.fault.BadBody.TheVariants as body
 use Rattle.session_lines.specs.declared.fault.BadLine.{BadLine}

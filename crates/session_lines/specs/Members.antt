@@ -1,7 +1,7 @@
 -- The members of a request, as JSON values.
 --     schema       a text that does not speak of invariants
 --     files        a list of bodies of `add`, each with a path of its own
-use Rattle.std.specs.Prelude.{ℕ, ◌&&◌, ◌||◌, Bool, true, false, not, List, [], ◌∷◌, ◌++◌, codes, bytes_eq, Option, Some, None, is_some, option_map, option_and_then, Result, Ok, Err, unwrap_or, if◌then◌else◌}
+use Rattle.std.specs.Prelude.{ℕ, ◌&&◌, ◌||◌, Bool, true, not, List, [], ◌∷◌, ◌++◌, codes, bytes_eq, Option, Some, None, is_some, option_map, option_and_then, Result, Ok, Err, unwrap_or, if◌then◌else◌}
 use Rattle.std.specs.List.{list_any}
 use Rattle.serde_json.specs.Data.{Data, Items, no_items, item, Members, no_members, member}
 use Rattle.serde_json.specs.Find.{as_array, as_null}

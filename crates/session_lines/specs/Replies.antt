@@ -84,18 +84,36 @@ said name = Some (string name)
 
 -- ---- replies
 
--- the live files, the metadata, the protocol, the tombstones and the latest txns of a state
-abbrev pub loaded_fields : ℕ → State → ℤ → ℕ → Fields
-loaded_fields latest s time version =
-    (codes "files", Some (bodies_data false (map action.Add (files_in s))))
-    ∷ (codes "latest", Some (count_data latest))
-    ∷ (codes "metaData", option_map (λ m. body_data true (action.Meta m)) (meta_in s))
-    ∷ (codes "protocol", option_map (λ p. body_data true (action.Protocol p)) (protocol_in s))
-    ∷ (codes "removed", Some (bodies_data false (map action.Remove (tombstones_in s))))
+-- the bodies of the live files and of the tombstones, without dataChange, and of the latest txns; each in byte order of its key
+abbrev pub files_data : State → Data
+files_data s = bodies_data false (map action.Add (files_in s))
+
+abbrev pub gone_data : State → Data
+gone_data s = bodies_data false (map action.Remove (tombstones_in s))
+
+abbrev pub txns_data : State → Data
+txns_data s = bodies_data true (map action.Txn (txns_in s))
+
+-- the bodies of the metadata and of the protocol
+abbrev pub meta_data : State → Option Data
+meta_data s = option_map (λ m. body_data true (action.Meta m)) (meta_in s)
+
+abbrev pub protocol_data : State → Option Data
+protocol_data s = option_map (λ p. body_data true (action.Protocol p)) (protocol_in s)
+
+abbrev pub table_fields : ℕ → State → Fields
+table_fields latest s = (codes "latest", Some (count_data latest)) ∷ (codes "metaData", meta_data s) ∷ (codes "protocol", protocol_data s) ∷ []
+
+abbrev pub end_fields : State → ℤ → ℕ → Fields
+end_fields s time version =
+    (codes "removed", Some (gone_data s))
     ∷ (codes "reply", said (codes "loaded"))
     ∷ (codes "time", Some (integer_data time))
-    ∷ (codes "txns", Some (bodies_data true (map action.Txn (txns_in s))))
+    ∷ (codes "txns", Some (txns_data s))
     ∷ (codes "version", Some (count_data version)) ∷ []
+
+abbrev pub loaded_fields : ℕ → State → ℤ → ℕ → Fields
+loaded_fields latest s time version = (codes "files", Some (files_data s)) ∷ (table_fields latest s ++ end_fields s time version)
 
 abbrev pub bad_line_fields : ℕ → List ℕ → Fields
 bad_line_fields at reason = (codes "at", Some (count_data at)) ∷ (codes "reply", said (codes "badLine")) ∷ (codes "why", said reason) ∷ []

@@ -13,7 +13,6 @@ use Rattle.action_fields.specs.Valid.{has_valid_fields}
 use Rattle.conflict_rules.specs.declared.intent.Intent.{Intent}
 use Rattle.conflict_rules.specs.declared.intent.Level.TheVariants as level
 use Rattle.conflict_rules.specs.declared.intent.Reads.TheVariants as reads
-use Rattle.staged_commit.specs.declared.create.Create.{Create}
 use Rattle.staged_commit.specs.Composed.{IsCreate}
 use Rattle.session_lines.specs.Members.{op_named, other_member, schema, files_or_none, have_own_paths}
 use Rattle.session_lines.specs.declared.op.Op.{Op}

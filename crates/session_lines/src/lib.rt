@@ -3,6 +3,7 @@
 
 mod fault;
 mod files;
+mod loaded;
 mod member;
 mod names;
 mod op;

@@ -3,6 +3,7 @@ ghost use Rattle.std.specs.Prelude.{◌≡◌, IfOk};
 ghost use Rattle.serde_json.specs.Written.{compact_text};
 ghost use Rattle.session_lines.specs.Replies.{IsShort, reply_data, reply_text_of};
 
+use crate::loaded::loaded_text;
 use crate::reply::Reply;
 use crate::text::put_reply;
 use json::Writer;
@@ -23,7 +24,12 @@ fn object_text(alloc: Global, reply: &Reply) -> Result<Vec<u8>, AllocError>
     ensures { IfOk result (λ v. v.items ≡ compact_text (reply_data reply.now)) }
 {
     match reply {
-        Reply::Loaded { .. } => Err(AllocError),
+        Reply::Loaded {
+            latest,
+            state,
+            time,
+            version,
+        } => loaded_text(alloc, *latest, state, *time, *version),
         _ => short_text(alloc, reply),
     }
 }

@@ -1,5 +1,5 @@
 -- What a create composes is a commit.
-use Rattle.std.proofs.Common.{◌≡◌, ℕ, ℤ, pos, ◌≤ℤ◌, int_lt, not, arith, List, [], ◌∷◌, Bool, true, false, ◌&&◌, None, Some, codes, refl, ap, ap₂}
+use Rattle.std.proofs.Common.{◌≡◌, ℕ, ℤ, pos, ◌≤ℤ◌, int_lt, not, arith, [], ◌∷◌, Bool, true, false, ◌&&◌, Some, codes, refl, ap, ap₂}
 use Rattle.std.proofs.lemmas.Int.{ints}
 use Rattle.action_types.specs.declared.actions.Action.TheVariants as action
 use Rattle.action_types.specs.declared.actions.Info.{Info}

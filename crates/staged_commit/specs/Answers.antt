@@ -1,5 +1,5 @@
 -- What a call that composes answers.
-use Rattle.std.specs.Prelude.{◌≡◌, ℕ, ℤ, ◌<◌, ◌≤◌, List, length, Option, Some, None, Result, Ok, Err, ⊤}
+use Rattle.std.specs.Prelude.{◌≡◌, ℕ, ℤ, ◌<◌, ◌≤◌, List, length, None, Ok, ⊤}
 use Rattle.action_types.specs.declared.actions.Action.{Action}
 use Rattle.action_json.specs.Commit.{canonical_text, outcome}
 use Rattle.reconcile.specs.Replay.{Log}

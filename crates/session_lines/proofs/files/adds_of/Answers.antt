@@ -1,4 +1,4 @@
-use Rattle.std.proofs.Common.{sym, ◌∙◌, ap}
+use Rattle.std.proofs.Common.{sym, ◌∙◌}
 use Rattle.session_lines.proofs.Steps.{behind-nil, adds-more, adds-none}
 use Rattle.session_lines.proofs.files.adds_of.Goals as goal
 

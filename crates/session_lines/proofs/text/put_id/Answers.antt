@@ -7,5 +7,5 @@ pub returns : goal.returns
 unfolding uuid_text
 returns c =
     let written : c.encode_lower.result.now ≡ uuid_text c.args.id =
-        c.encode_lower.ensures.text ∙ ap (hyphenated_text lower) (c.hyphenated.ensures ∙ c.from_u128.ensures) in
+    c.encode_lower.ensures.text ∙ ap (hyphenated_text lower) (c.hyphenated.ensures ∙ c.from_u128.ensures) in
     rw (sym written) c.put_text.ensures

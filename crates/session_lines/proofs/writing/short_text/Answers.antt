@@ -1,4 +1,4 @@
-use Rattle.std.proofs.Common.{◌≡◌, ◌++◌, Ok, ap, ◌∙◌}
+use Rattle.std.proofs.Common.{◌++◌, Ok, ap, ◌∙◌}
 use Rattle.serde_json.specs.Written.{compact_text}
 use Rattle.action_fields.proofs.Tokens.{printed}
 use Rattle.session_lines.specs.Replies.{reply_data}

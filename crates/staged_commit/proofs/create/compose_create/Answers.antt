@@ -1,4 +1,4 @@
-use Rattle.std.proofs.Common.{◌≡◌, ℤ, List, subst, sym, w64}
+use Rattle.std.proofs.Common.{ℤ, List, subst, sym, w64}
 use Rattle.std.proofs.lemmas.Int.{to_z-of_z}
 use Rattle.action_types.specs.declared.actions.Action.{Action}
 use Rattle.action_json.specs.Commit.{IsCommit}

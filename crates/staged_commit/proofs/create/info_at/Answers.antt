@@ -1,4 +1,4 @@
-use Rattle.std.proofs.Common.{◌≡◌, ℕ, ℤ, List, Some, ap, ap₂, ◌∙◌, w64}
+use Rattle.std.proofs.Common.{ℕ, ℤ, List, Some, ap, ap₂, ◌∙◌, w64}
 use Rattle.std.proofs.lemmas.Int.{to_z-of_z}
 use Rattle.uuid.specs.Text.{hyphenated_text, lower}
 use Rattle.action_types.specs.declared.actions.Info.{Info}
