@@ -266,7 +266,8 @@ fn next_commits(rt: HostRuntime) -> Result<(), Fail> {
 #[test]
 fn features(rt: HostRuntime) -> Result<(), Fail> {
     let both = "catalogManaged v2Checkpoint vacuumProtocolCheck";
-    let all = "catalogManaged inCommitTimestamp v2Checkpoint vacuumProtocolCheck appendOnly invariants";
+    let all =
+        "catalogManaged inCommitTimestamp v2Checkpoint vacuumProtocolCheck appendOnly invariants";
     let one = "catalogManaged";
     let two = "catalogManaged inCommitTimestamp";
     let mapped = "columnMapping";

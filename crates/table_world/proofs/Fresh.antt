@@ -74,7 +74,7 @@ fresh_is c limits files new count first tells empty same now =
     ap (λ (x : CatalogData). world_of x new count first tells) empty
     ∙ ap (λ (x : Files). let w : WorldData = record { records = []; reported = 0; limits = limits; files = x; tally = count - first; tells = tells } in w) same
     ∙ ap (λ (n : ℕ). let w : WorldData = record { records = []; reported = 0; limits = limits; files = files; tally = n; tells = tells } in w)
-      (ap (λ (n : ℕ). count - n) now ∙ monus_self count)
+    (ap (λ (n : ℕ). count - n) now ∙ monus_self count)
 
 -- a text that is a name of the log is short
 pub log_name_short : (text : List ℕ) → name_of text ≢ name.Other → length text ≤ 78

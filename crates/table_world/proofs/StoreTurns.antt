@@ -122,15 +122,15 @@ put_failed c files new count now first tells n text bytes t le h less = record {
   files = elim h [
     | inl same ↦ inl (ap (λ (x : Files). world_of c x now first tells) same)
     | inr done ↦ inr (
-      let w : WorldData = world_of c files count first tells in
-      let test : text_stands files text ≡ stands w n = ap is_some (sym (file_at-text files n text t.fit t.is)) in
-      let put : with_file files text bytes ≡ put_at files n bytes = sym (put_at-text files n text bytes t.is) in
-      let is : new ≡ cond (stands w n) files (cond tells (put_at files n bytes) files) =
-          done ∙ by_cases tells (text_stands files text) files (with_file files text bytes)
-          ∙ ap (λ (b : Bool). cond b files (cond tells (with_file files text bytes) files)) test
-          ∙ ap (λ (x : Files). cond (stands w n) files (cond tells x files)) put in
-      ap (λ (x : Files). world_of c x now first tells) is
-      ∙ sym (in_record (stands w n) w (cond tells (put_at files n bytes) files) (now - first)))
+        let w : WorldData = world_of c files count first tells in
+        let test : text_stands files text ≡ stands w n = ap is_some (sym (file_at-text files n text t.fit t.is)) in
+        let put : with_file files text bytes ≡ put_at files n bytes = sym (put_at-text files n text bytes t.is) in
+        let is : new ≡ cond (stands w n) files (cond tells (put_at files n bytes) files) =
+        done ∙ by_cases tells (text_stands files text) files (with_file files text bytes)
+        ∙ ap (λ (b : Bool). cond b files (cond tells (with_file files text bytes) files)) test
+        ∙ ap (λ (x : Files). cond (stands w n) files (cond tells x files)) put in
+        ap (λ (x : Files). world_of c x now first tells) is
+        ∙ sym (in_record (stands w n) w (cond tells (put_at files n bytes) files) (now - first)))
   ];
 }
 
@@ -163,7 +163,7 @@ delete_failed c files new count now first tells n text t le h less = record {
   files = elim h [
     | inl same ↦ inl (ap (λ (x : Files). world_of c x now first tells) same)
     | inr done ↦ inr (ap (λ (x : Files). world_of c x now first tells)
-      (done ∙ ap (λ (x : Files). cond tells x files) (sym (drop_at-text files n text t.is))))
+        (done ∙ ap (λ (x : Files). cond tells x files) (sym (drop_at-text files n text t.is))))
   ];
 }
 

@@ -234,7 +234,7 @@ pub ratify_done : (version id : ℕ) (time : ℤ) (w x : WorldData) (n m : Notes
 ratify_done version id time w x n m a h may t e f =
     let o = outcome-ratify version id time w x (known_of w n) (Ok a) h.consistent h.holds may t in
     let is : known_of x m ≡ ratify_learned version (known_of w n) (Ok a) x =
-        known_whole m _ w x (length x.records) e f o.later refl ∙ ratify_noted_learned version 0 a (noted n) n.seen w x h.seen in
+    known_whole m _ w x (length x.records) e f o.later refl ∙ ratify_noted_learned version 0 a (noted n) n.seen w x h.seen in
     has_done _ _ w x n m _ t (moved_learns (LearnsRatify w.tells version id (known_of w n) (Ok a)) _ _ is (learns-ratify version id time w x (known_of w n) (Ok a) h.consistent h.holds may t)) o is (omega (arith, f))
 
 publish_moved : (version : ℕ) (k : Knowledge) (seen : ℕ) (w : WorldData) (r : Result Put StepFault) → known_with (publish_learned version k r) seen w ≡ publish_learned version (known_with k seen w) r
@@ -309,7 +309,7 @@ seen_test w seen version id b le less there back =
     let long : version < length (take seen (log_of w)) = let e = length_front w seen le in omega (arith, e) in
     let at : commit_at (take seen (log_of w)) version ≡ commit_at (log_of w) version = get_or-take seen (log_of w) version no_commit less in
     let same : (commit_at (take seen (log_of w)) version).id ≡ (entry_at w.records version).id =
-        ap (λ (c : Commit). c.id) (at ∙ log_commit w version far) in
+    ap (λ (c : Commit). c.id) (at ∙ log_commit w version far) in
     decided b id (entry_at w.records version).id (version < length w.records) there back far
     ∙ ap (λ (n : ℕ). id == n) (sym same)
     ∙ sym (ap (λ (t : Bool). t && (id == (commit_at (take seen (log_of w)) version).id)) (lt-ltb version (length (take seen (log_of w))) long))

@@ -8,5 +8,8 @@ mod turns;
 mod world;
 
 pub use solo::Solo;
-pub use table_model::{Bytes, Clearing, Commits, Gone, Limits, LogName, Looked, Mark, Put, Ratified, Ratify, Refusal, Spot, Staged, StepFault, Steps, Try};
+pub use table_model::{
+    Bytes, Clearing, Commits, Gone, Limits, LogName, Looked, Mark, Put, Ratified, Ratify, Refusal,
+    Spot, Staged, StepFault, Steps, Try,
+};
 pub use world::{Start, World};

@@ -9,11 +9,10 @@ ghost use Rattle.table_model.specs.Knowledge.{newcomer};
 ghost use Rattle.table_model.specs.Learning.{fault_noted, mark_of, kept_after};
 ghost use Rattle.table_model.specs.Conditions.{triple};
 
-use std::alloc::{AllocError, Global};
-
-use log_names::LogName;
 use commit_catalog::Ratify;
+use log_names::LogName;
 use object_store::{Bytes, Gone, Put};
+use std::alloc::{AllocError, Global};
 use table_model::{Clearing, Mark, Refusal, Spot, Staged, StepFault, Try};
 
 /// A staged file: its version, its id and its bytes.
@@ -165,7 +164,11 @@ impl Notes {
     }
 
     /// Notes the answer to a turn that lists. Where it is refused, for want of memory, names were listed, and nothing changed.
-    pub(crate) fn note_list(&mut self, alloc: Global, answer: &Result<Vec<LogName>, StepFault>) -> Result<(), StepFault>
+    pub(crate) fn note_list(
+        &mut self,
+        alloc: Global,
+        answer: &Result<Vec<LogName>, StepFault>,
+    ) -> Result<(), StepFault>
         requires { HasRoom self.old }
         ensures seen { self.new.seen ≡ self.old.seen }
         ensures ok { OnOk result (noted self.new ≡ list_learned (noted self.old) answer.now) }
@@ -182,7 +185,13 @@ impl Notes {
 
     /// Notes the answer to a turn that reads a file. `is_seen` says of a staged name that it is that of a commit that was
     /// seen. Where it is refused, for want of memory, the turn was not, and nothing changed.
-    pub(crate) fn note_get(&mut self, alloc: Global, name: LogName, answer: &Result<Bytes, StepFault>, is_seen: bool) -> Result<(), StepFault>
+    pub(crate) fn note_get(
+        &mut self,
+        alloc: Global,
+        name: LogName,
+        answer: &Result<Bytes, StepFault>,
+        is_seen: bool,
+    ) -> Result<(), StepFault>
         requires { HasRoom self.old }
         ensures seen { self.new.seen ≡ self.old.seen }
         ensures ok { OnOk result (noted self.new ≡ answer_noted name answer.now is_seen (noted self.old)) }
@@ -218,7 +227,13 @@ impl Notes {
 
     /// Notes a file that was asked for: one that stood by its name, or that it was absent. `is_seen` says of a staged
     /// name that it is that of a commit that was seen. On refusal nothing changed.
-    fn note_bytes(&mut self, alloc: Global, name: LogName, bytes: &Bytes, is_seen: bool) -> Result<(), StepFault>
+    fn note_bytes(
+        &mut self,
+        alloc: Global,
+        name: LogName,
+        bytes: &Bytes,
+        is_seen: bool,
+    ) -> Result<(), StepFault>
         requires { HasRoom self.old }
         ensures seen { self.new.seen ≡ self.old.seen }
         ensures ok { OnOk result (noted self.new ≡ get_noted name bytes.now is_seen (noted self.old)) }
@@ -263,7 +278,13 @@ impl Notes {
     }
 
     /// Notes a staged file that was read, with its bytes.
-    fn note_staged(&mut self, alloc: Global, version: u64, id: u128, bytes: &[u8]) -> Result<(), StepFault>
+    fn note_staged(
+        &mut self,
+        alloc: Global,
+        version: u64,
+        id: u128,
+        bytes: &[u8],
+    ) -> Result<(), StepFault>
         requires { HasRoom self.old }
         ensures seen { self.new.seen ≡ self.old.seen }
         ensures ok { OnOk result (noted self.new ≡ record (noted self.old) { kept = (noted self.old).kept ++ triple version id bytes.now ∷ []; gets = (noted self.old).gets + 1 }) }
@@ -292,7 +313,13 @@ impl Notes {
     }
 
     /// Notes the answer to a turn that stages these bytes.
-    pub(crate) fn note_stage(&mut self, version: u64, id: u128, bytes: Vec<u8>, answer: Result<Staged, StepFault>)
+    pub(crate) fn note_stage(
+        &mut self,
+        version: u64,
+        id: u128,
+        bytes: Vec<u8>,
+        answer: Result<Staged, StepFault>,
+    )
         requires { HasRoom self.old }
         ensures seen { self.new.seen ≡ self.old.seen }
         ensures noted { noted self.new ≡ stage_learned version id bytes.items (noted self.old) answer }
@@ -400,7 +427,8 @@ fn above_published(name: LogName, shown: u64) -> Option<u64>
 {
     match name {
         LogName::Published(version) => Some(shown.max(version.checked_add(1)?)),
-        LogName::Staged(_, _) | LogName::Checkpoint(_, _) | LogName::Parquet(_) | LogName::Other => Some(shown),
+        LogName::Staged(_, _) | LogName::Checkpoint(_, _) | LogName::Parquet(_) | LogName::Other =>
+            Some(shown),
     }
 }
 
@@ -416,7 +444,8 @@ fn published_gone(name: LogName, is_seen: bool, published: u64) -> Option<u64>
                 Some(published)
             }
         }
-        LogName::Published(_) | LogName::Checkpoint(_, _) | LogName::Parquet(_) | LogName::Other => Some(published),
+        LogName::Published(_) | LogName::Checkpoint(_, _) | LogName::Parquet(_) | LogName::Other =>
+            Some(published),
     }
 }
 
@@ -440,6 +469,7 @@ fn mark_of(name: LogName) -> Option<Mark>
 {
     match name {
         LogName::Checkpoint(version, id) => Some(Mark { version, id }),
-        LogName::Published(_) | LogName::Staged(_, _) | LogName::Parquet(_) | LogName::Other => None,
+        LogName::Published(_) | LogName::Staged(_, _) | LogName::Parquet(_) | LogName::Other =>
+            None,
     }
 }

@@ -9,17 +9,15 @@ ghost use Rattle.table_model.specs.Conditions.{MayRatify, MayPublish, MayReport,
 ghost use Rattle.table_model.specs.Alone.{IsAfter};
 ghost use Rattle.table_model.proofs.Lasting.{after_refl, after_trans};
 
-use std::alloc::Global;
-use std::marker::Model;
-
-use commit_catalog::{Commits, Limits, Ratify};
-use log_names::LogName;
-use object_store::{Bytes, Gone, Put, Store};
-use table_model::{Staged, StepFault, Steps};
-
 use crate::notes::Notes;
 use crate::turns;
 use crate::world::World;
+use commit_catalog::{Commits, Limits, Ratify};
+use log_names::LogName;
+use object_store::{Bytes, Gone, Put, Store};
+use std::alloc::Global;
+use std::marker::Model;
+use table_model::{Staged, StepFault, Steps};
 
 /// The one caller of a world. It keeps what it knows beside the world.
 pub struct Solo<S: Store> {
@@ -92,11 +90,23 @@ impl<S: Store> Steps for Solo<S> {
         turns::get(&mut self.world, &mut self.notes, alloc, name)
     }
 
-    fn stage(&mut self, alloc: Global, version: u64, id: u128, bytes: &[u8]) -> Result<Staged, StepFault> {
+    fn stage(
+        &mut self,
+        alloc: Global,
+        version: u64,
+        id: u128,
+        bytes: &[u8],
+    ) -> Result<Staged, StepFault> {
         turns::stage(&mut self.world, &mut self.notes, alloc, version, id, bytes)
     }
 
-    fn ratify(&mut self, _alloc: Global, version: u64, id: u128, time: i64) -> Result<Ratify, StepFault> {
+    fn ratify(
+        &mut self,
+        _alloc: Global,
+        version: u64,
+        id: u128,
+        time: i64,
+    ) -> Result<Ratify, StepFault> {
         turns::ratify(&mut self.world, &mut self.notes, version, id, time)
     }
 

@@ -9,12 +9,11 @@ ghost use Rattle.commit_catalog.specs.Records.{CatalogData};
 ghost use Rattle.table_model.specs.Turns.{ListTurn, GetTurn, StageTurn, PublishTurn, ClearTurn};
 ghost use Rattle.table_world.specs.Worlds.{world_of, IsRecordedUnder};
 
-use std::alloc::Global;
-
 use action_types::Name;
 use commit_catalog::Catalog;
 use log_names::LogName;
 use object_store::{Bytes, Gone, Put, Store, StoreError};
+use std::alloc::Global;
 use table_model::{Spot, Staged, StepFault};
 
 /// Whether a version is ratified under an id.
@@ -28,7 +27,11 @@ pub(crate) fn is_recorded(catalog: &Catalog, version: u64, id: u128) -> bool
 }
 
 /// Reads a file.
-pub(crate) fn get_file<S: Store>(store: &mut S, alloc: Global, name: LogName) -> Result<Bytes, StepFault>
+pub(crate) fn get_file<S: Store>(
+    store: &mut S,
+    alloc: Global,
+    name: LogName,
+) -> Result<Bytes, StepFault>
     requires { IsSome (name_text name) }
     ensures turn { (c : CatalogData) (first : ℕ) → first ≤ S.faults store.old → GetTurn name (world_of c (S.files store.old) (S.faults store.old) first S.tells) result (world_of c (S.files store.new) (S.faults store.new) first S.tells) }
     ensures count { S.faults store.old ≤ S.faults store.new }
@@ -71,7 +74,13 @@ fn log_names_of(alloc: Global, texts: &[Name]) -> Result<Vec<LogName>, StepFault
 }
 
 /// Stages a file of a version that is not ratified under this id.
-pub(crate) fn stage_file<S: Store>(store: &mut S, alloc: Global, version: u64, id: u128, bytes: &[u8]) -> Result<Staged, StepFault>
+pub(crate) fn stage_file<S: Store>(
+    store: &mut S,
+    alloc: Global,
+    version: u64,
+    id: u128,
+    bytes: &[u8],
+) -> Result<Staged, StepFault>
     ensures turn { (c : CatalogData) (first : ℕ) → first ≤ S.faults store.old → ¬ (IsRecordedUnder c.records version id) → StageTurn version id bytes.now (world_of c (S.files store.old) (S.faults store.old) first S.tells) result (world_of c (S.files store.new) (S.faults store.new) first S.tells) }
     ensures count { S.faults store.old ≤ S.faults store.new }
 {
@@ -88,7 +97,12 @@ pub(crate) fn stage_file<S: Store>(store: &mut S, alloc: Global, version: u64, i
 }
 
 /// Publishes a file.
-pub(crate) fn publish_file<S: Store>(store: &mut S, alloc: Global, version: u64, bytes: &[u8]) -> Result<Put, StepFault>
+pub(crate) fn publish_file<S: Store>(
+    store: &mut S,
+    alloc: Global,
+    version: u64,
+    bytes: &[u8],
+) -> Result<Put, StepFault>
     ensures turn { (c : CatalogData) (first : ℕ) → first ≤ S.faults store.old → PublishTurn version bytes.now (world_of c (S.files store.old) (S.faults store.old) first S.tells) result (world_of c (S.files store.new) (S.faults store.new) first S.tells) }
     ensures count { S.faults store.old ≤ S.faults store.new }
 {
@@ -104,7 +118,12 @@ pub(crate) fn publish_file<S: Store>(store: &mut S, alloc: Global, version: u64,
 }
 
 /// Deletes a staged file.
-pub(crate) fn clear_file<S: Store>(store: &mut S, alloc: Global, version: u64, id: u128) -> Result<Gone, StepFault>
+pub(crate) fn clear_file<S: Store>(
+    store: &mut S,
+    alloc: Global,
+    version: u64,
+    id: u128,
+) -> Result<Gone, StepFault>
     ensures turn { (c : CatalogData) (first : ℕ) → first ≤ S.faults store.old → ClearTurn version id (world_of c (S.files store.old) (S.faults store.old) first S.tells) result (world_of c (S.files store.new) (S.faults store.new) first S.tells) }
     ensures count { S.faults store.old ≤ S.faults store.new }
 {

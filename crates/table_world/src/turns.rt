@@ -8,18 +8,19 @@ ghost use Rattle.table_model.specs.Learning.{LearnsCommits, LearnsList, LearnsGe
 ghost use Rattle.table_world.specs.Noted.{known_of};
 ghost use Rattle.table_world.specs.Done.{IsKnownIn, HasDone};
 
-use std::alloc::Global;
-
+use crate::notes::Notes;
+use crate::world::World;
 use commit_catalog::{Commits, Ratify};
 use log_names::LogName;
 use object_store::{Bytes, Gone, Put, Store};
+use std::alloc::Global;
 use table_model::{Staged, StepFault};
 
-use crate::notes::Notes;
-use crate::world::World;
-
 /// The catalogue now.
-pub(crate) fn commits<S: Store>(world: &mut World<S>, notes: &mut Notes) -> Result<Commits, StepFault>
+pub(crate) fn commits<S: Store>(
+    world: &mut World<S>,
+    notes: &mut Notes,
+) -> Result<Commits, StepFault>
     requires known { IsKnownIn world.old notes.old }
     ensures { HasDone (CommitsTurn world.old result world.new) (LearnsCommits world.old.tells (known_of world.old notes.old) result (known_of world.new notes.new)) world.old notes.old world.new notes.new }
 {
@@ -36,7 +37,11 @@ pub(crate) fn commits<S: Store>(world: &mut World<S>, notes: &mut Notes) -> Resu
 }
 
 /// The names of the log in the folder.
-pub(crate) fn list<S: Store>(world: &mut World<S>, notes: &mut Notes, alloc: Global) -> Result<Vec<LogName>, StepFault>
+pub(crate) fn list<S: Store>(
+    world: &mut World<S>,
+    notes: &mut Notes,
+    alloc: Global,
+) -> Result<Vec<LogName>, StepFault>
     requires known { IsKnownIn world.old notes.old }
     ensures { HasDone (ListTurn world.old result world.new) (LearnsList world.old.tells (known_of world.old notes.old) result (known_of world.new notes.new)) world.old notes.old world.new notes.new }
 {
@@ -52,7 +57,12 @@ pub(crate) fn list<S: Store>(world: &mut World<S>, notes: &mut Notes, alloc: Glo
 }
 
 /// The file of a name that has a text.
-pub(crate) fn get<S: Store>(world: &mut World<S>, notes: &mut Notes, alloc: Global, name: LogName) -> Result<Bytes, StepFault>
+pub(crate) fn get<S: Store>(
+    world: &mut World<S>,
+    notes: &mut Notes,
+    alloc: Global,
+    name: LogName,
+) -> Result<Bytes, StepFault>
     requires known { IsKnownIn world.old notes.old }
     requires text { IsSome (name_text name) }
     ensures { HasDone (GetTurn name world.old result world.new) (LearnsGet world.old.tells name (known_of world.old notes.old) result (known_of world.new notes.new)) world.old notes.old world.new notes.new }
@@ -70,7 +80,14 @@ pub(crate) fn get<S: Store>(world: &mut World<S>, notes: &mut Notes, alloc: Glob
 }
 
 /// Stages a commit of a version under an id.
-pub(crate) fn stage<S: Store>(world: &mut World<S>, notes: &mut Notes, alloc: Global, version: u64, id: u128, bytes: &[u8]) -> Result<Staged, StepFault>
+pub(crate) fn stage<S: Store>(
+    world: &mut World<S>,
+    notes: &mut Notes,
+    alloc: Global,
+    version: u64,
+    id: u128,
+    bytes: &[u8],
+) -> Result<Staged, StepFault>
     requires known { IsKnownIn world.old notes.old }
     ensures { HasDone (StageTurn version id bytes.now world.old result world.new) (LearnsStage version id bytes.now (known_of world.old notes.old) result (known_of world.new notes.new)) world.old notes.old world.new notes.new }
 {
@@ -88,7 +105,13 @@ pub(crate) fn stage<S: Store>(world: &mut World<S>, notes: &mut Notes, alloc: Gl
 }
 
 /// Ratifies a staged commit as a version.
-pub(crate) fn ratify<S: Store>(world: &mut World<S>, notes: &mut Notes, version: u64, id: u128, time: i64) -> Result<Ratify, StepFault>
+pub(crate) fn ratify<S: Store>(
+    world: &mut World<S>,
+    notes: &mut Notes,
+    version: u64,
+    id: u128,
+    time: i64,
+) -> Result<Ratify, StepFault>
     requires known { IsKnownIn world.old notes.old }
     requires may { MayRatify world.old.tells (known_of world.old notes.old) version id time }
     ensures { HasDone (RatifyTurn version id time world.old result world.new) (LearnsRatify world.old.tells version id (known_of world.old notes.old) result (known_of world.new notes.new)) world.old notes.old world.new notes.new }
@@ -106,7 +129,13 @@ pub(crate) fn ratify<S: Store>(world: &mut World<S>, notes: &mut Notes, version:
 }
 
 /// Publishes a ratified version.
-pub(crate) fn publish<S: Store>(world: &mut World<S>, notes: &mut Notes, alloc: Global, version: u64, bytes: &[u8]) -> Result<Put, StepFault>
+pub(crate) fn publish<S: Store>(
+    world: &mut World<S>,
+    notes: &mut Notes,
+    alloc: Global,
+    version: u64,
+    bytes: &[u8],
+) -> Result<Put, StepFault>
     requires known { IsKnownIn world.old notes.old }
     requires may { MayPublish world.old.tells (known_of world.old notes.old) version bytes.now }
     ensures { HasDone (PublishTurn version bytes.now world.old result world.new) (LearnsPublish version (known_of world.old notes.old) result (known_of world.new notes.new)) world.old notes.old world.new notes.new }
@@ -124,7 +153,11 @@ pub(crate) fn publish<S: Store>(world: &mut World<S>, notes: &mut Notes, alloc: 
 }
 
 /// Reports that the versions below `count` are published.
-pub(crate) fn report<S: Store>(world: &mut World<S>, notes: &mut Notes, count: u64) -> Result<u64, StepFault>
+pub(crate) fn report<S: Store>(
+    world: &mut World<S>,
+    notes: &mut Notes,
+    count: u64,
+) -> Result<u64, StepFault>
     requires known { IsKnownIn world.old notes.old }
     requires may { MayReport (known_of world.old notes.old) count }
     ensures { HasDone (ReportTurn count world.old result world.new) (LearnsReport count (known_of world.old notes.old) result (known_of world.new notes.new)) world.old notes.old world.new notes.new }
@@ -142,7 +175,13 @@ pub(crate) fn report<S: Store>(world: &mut World<S>, notes: &mut Notes, count: u
 }
 
 /// Clears the staged file of a reported version.
-pub(crate) fn clear<S: Store>(world: &mut World<S>, notes: &mut Notes, alloc: Global, version: u64, id: u128) -> Result<Gone, StepFault>
+pub(crate) fn clear<S: Store>(
+    world: &mut World<S>,
+    notes: &mut Notes,
+    alloc: Global,
+    version: u64,
+    id: u128,
+) -> Result<Gone, StepFault>
     requires known { IsKnownIn world.old notes.old }
     requires may { MayClear (known_of world.old notes.old) version }
     ensures { HasDone (ClearTurn version id world.old result world.new) (LearnsClear version id (known_of world.old notes.old) result (known_of world.new notes.new)) world.old notes.old world.new notes.new }

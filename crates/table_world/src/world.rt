@@ -11,17 +11,15 @@ ghost use Rattle.table_model.specs.Holding.{HoldsIn};
 ghost use Rattle.table_model.specs.Conditions.{MayRatify, MayPublish, MayReport, MayClear};
 ghost use Rattle.table_model.specs.Turns.{CommitsTurn, ListTurn, GetTurn, StageTurn, RatifyTurn, PublishTurn, ReportTurn, ClearTurn};
 
+use crate::store_turns;
+use action_types::Name;
+use commit_catalog::{Catalog, Commits, Limits, Ratify};
+use log_names::{LogName, NameText};
+use object_store::{Bytes, Gone, Put, Store, StoreError};
 use std::alloc::Global;
 use std::marker::Model;
 use std::snapshot::Snapshot;
-
-use commit_catalog::{Catalog, Commits, Limits, Ratify};
-use action_types::Name;
-use log_names::{LogName, NameText};
-use object_store::{Bytes, Gone, Put, Store, StoreError};
 use table_model::{Staged, StepFault};
-
-use crate::store_turns;
 
 /// A table: its commit catalogue and the store of its log. Each call that reads or changes it is one turn, and leaves
 /// it consistent. For contracts alone it keeps the store as it was handed in, which takes no byte.
@@ -123,8 +121,12 @@ impl<S: Store> World<S> {
         ensures { result ≡ is_seen_name name (take seen (log_of self.now)) }
     {
         match name {
-            LogName::Staged(version, id) => version < seen && store_turns::is_recorded(&self.catalog, version, id),
-            LogName::Published(_) | LogName::Checkpoint(_, _) | LogName::Parquet(_) | LogName::Other => false,
+            LogName::Staged(version, id) => version < seen
+                && store_turns::is_recorded(&self.catalog, version, id),
+            LogName::Published(_)
+            | LogName::Checkpoint(_, _)
+            | LogName::Parquet(_)
+            | LogName::Other => false,
         }
     }
 
@@ -155,7 +157,13 @@ impl<S: Store> World<S> {
 
     /// Stages a commit of a version under an id. `Taken` exactly where the name stands, or where the version is
     /// ratified under this id.
-    pub fn stage(&mut self, alloc: Global, version: u64, id: u128, bytes: &[u8]) -> Result<Staged, StepFault>
+    pub fn stage(
+        &mut self,
+        alloc: Global,
+        version: u64,
+        id: u128,
+        bytes: &[u8],
+    ) -> Result<Staged, StepFault>
         ensures turn { StageTurn version id bytes.now self.old result self.new }
         ensures consistent { IsConsistent self.new }
     {

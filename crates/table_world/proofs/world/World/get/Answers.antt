@@ -3,7 +3,7 @@ use Rattle.table_world.proofs.Kept.{kept_get}
 use Rattle.table_world.proofs.world.World.get.Goals as goal
 
 pub invariant_of-self : goal.invariant_of-self
-invariant_of-self g c = (kept_get c.args.name _ _ _ c.self.invariant.0  (c.get_file.ensures.turn c.self.inside.catalog _ c.self.invariant.1), (let a = c.self.invariant.1 in let b = c.get_file.ensures.count in omega (arith, a, b)))
+invariant_of-self g c = (kept_get c.args.name _ _ _ c.self.invariant.0 (c.get_file.ensures.turn c.self.inside.catalog _ c.self.invariant.1), (let a = c.self.invariant.1 in let b = c.get_file.ensures.count in omega (arith, a, b)))
 
 pub returns-clause-consistent : goal.returns-clause-consistent
-returns-clause-consistent g c = kept_get c.args.name _ _ _ c.self.invariant.0  (c.get_file.ensures.turn c.self.inside.catalog _ c.self.invariant.1)
+returns-clause-consistent g c = kept_get c.args.name _ _ _ c.self.invariant.0 (c.get_file.ensures.turn c.self.inside.catalog _ c.self.invariant.1)

@@ -13,5 +13,5 @@ returns-then-version-seen g c =
     let Back : WorldData → Type 0 = λ w. IsRecordedUnder w.records c.in-Staged.version c.in-Staged.id → IsTrue c.is_recorded.result in
     let Q : LogName → Type 0 = λ n. c.is_recorded.result ≡ is_seen_name n (take c.args.seen (log_of c.args.self.now)) in
     subst Q (sym c.in-Staged.is)
-        (seen_test c.args.self.now c.args.seen c.in-Staged.version c.in-Staged.id c.is_recorded.result c.requires c.if-version-seen.true
-            (subst There c.self.view_is c.is_recorded.ensures.0) (subst Back c.self.view_is c.is_recorded.ensures.1))
+    (seen_test c.args.self.now c.args.seen c.in-Staged.version c.in-Staged.id c.is_recorded.result c.requires c.if-version-seen.true
+    (subst There c.self.view_is c.is_recorded.ensures.0) (subst Back c.self.view_is c.is_recorded.ensures.1))
