@@ -1,4 +1,4 @@
-//! Reads 100,000 small requests from memory, and prints how many were read. `measure.sh` beside it says how long that takes.
+//! Reads 100,000 small requests from memory, and prints how many were read. `scripts/bench_requests` says how long that takes.
 #![tactic(auto)]
 
 use anyhow::{Result, bail};
