@@ -1,5 +1,5 @@
 use Rattle.std.proofs.Common.{codes}
-use Rattle.table_rules.proofs.Tests.{contains_text-contains}
+use Rattle.table_rules.proofs.TextTests.{contains_text-contains}
 use Rattle.session_lines.proofs.member.speaks_of_invariants.Goals as goal
 
 pub returns : goal.returns
