@@ -1,5 +1,6 @@
 ghost use Rattle.std.specs.Prelude.{◌≡◌, ◌<◌, ℕ, List, length, Bool, IsTrue, Option, Some, IsSome};
 ghost use Rattle.log_names.specs.Texts.{name_text};
+ghost use Rattle.commit_catalog.specs.Records.{AreLimits};
 ghost use Rattle.table_model.specs.World.{WorldData};
 ghost use Rattle.table_model.specs.Turns.{TellsTurn, CommitsTurn, ListTurn, GetTurn, StageTurn, RatifyTurn, PublishTurn, ReportTurn, ClearTurn};
 ghost use Rattle.table_model.specs.Knowledge.{Knowledge, IsGrown, IsValid};
@@ -32,6 +33,7 @@ pub trait Steps {
 
     /// The limits of the table, each at least 1, the same after every call. It takes no turn.
     fn limits(&self) -> Limits
+        ensures bounds { AreLimits result }
         ensures terms { (known self.now).terms ≡ Some (record { limits = result; tells = tells }) }
         ensures valid { IsValid (known self.now) };
 
