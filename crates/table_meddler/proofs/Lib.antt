@@ -1,0 +1,4 @@
+pub mod Afterwards
+pub mod Reads
+pub mod Judged
+pub mod Made
