@@ -1,28 +1,16 @@
 -- What stays for one caller of a world in which others act.
-use Rattle.std.proofs.Common.{◌≡◌, ◌<◌, ◌≤◌, inl, inr, ℕ, ℤ, List, Bool, length, sym, subst, arith}
+use Rattle.std.proofs.Common.{◌≡◌, ℕ, ℤ, List, Bool, sym, subst, arith}
 use Rattle.table_model.specs.World.{WorldData}
 use Rattle.table_model.specs.Knowledge.{Knowledge, IsGrown}
 use Rattle.table_model.specs.Holding.{HoldsIn, IsLater}
 use Rattle.table_model.specs.Conditions.{MayRatify, MayPublish}
 use Rattle.table_model.proofs.Growing.{le_trans}
-use Rattle.table_model.proofs.Worlds.{later_refl, later_trans, holds_later, below_or_above}
+use Rattle.table_model.proofs.Worlds.{later_trans, holds_later}
 use Rattle.table_world.specs.declared.notes.Notes.{Notes}
 use Rattle.table_world.specs.Noted.{noted, known_of}
 use Rattle.table_world.specs.Done.{IsKnownIn, HasDone}
 use Rattle.table_world.proofs.TurnNotes.{known_moved}
-use Rattle.table_meddler.specs.Among.{Among, IsAmongAfter, LeadsTo, HasDoneAmong}
-
-pub among_refl : (a : Among) → IsAmongAfter a a
-among_refl a = record { later = later_refl a.world; cause = λ less. absurd (omega arith) }
-
-pub among_trans : (a b c : Among) → IsAmongAfter a b → IsAmongAfter b c → IsAmongAfter a c
-among_trans a b c p q = record {
-  later = later_trans a.world b.world c.world p.later q.later;
-  cause = λ less. elim (below_or_above a.known.faults b.known.faults) [
-    | inl first ↦ (let f = p.cause first in let g = q.later.tally in omega arith)
-    | inr none ↦ (let f = q.cause (omega arith) in let g = p.later.tally in omega arith)
-  ];
-}
+use Rattle.table_meddler.specs.Among.{LeadsTo, HasDoneAmong}
 
 -- what is known is the same after turns of others
 pub known_same : (w x : WorldData) (n : Notes) → IsKnownIn w n → IsLater w x → known_of x n ≡ known_of w n

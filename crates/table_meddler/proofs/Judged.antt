@@ -1,15 +1,21 @@
 -- The tests of the conditions of other callers' turns.
-use Rattle.std.proofs.Common.{◌≡◌, ◌≢◌, ◌<◌, ◌≤◌, ◌+◌, inl, inr, ℕ, Bool, true, false, List, [], ◌∷◌, length, take, refl, sym, ◌∙◌, ap, subst, arith, rules, Option, Some, None, IsTrue, unwrap_or}
+use Rattle.std.proofs.Common.{◌≡◌, ◌≢◌, ◌<◌, ◌≤◌, ℕ, Bool, false, List, [], ◌∷◌, length, refl, sym, ◌∙◌, ap, subst, arith, Option, Some, None, IsTrue, unwrap_or}
 use Rattle.std.specs.Prelude.{◌↔◌, ℤ, pos}
+use Rattle.std.proofs.lemmas.Bool.{false≢true}
 use Rattle.log_names.specs.declared.LogName.TheVariants as name
 use Rattle.action_types.specs.declared.actions.Action.{Action}
 use Rattle.action_json.specs.Text.{IsCommitText, actions_of}
 use Rattle.reconcile.specs.Replay.{time_of_log}
-use Rattle.table_rules.specs.Broken.{first_broken}
-use Rattle.table_model.specs.Log.{commit_at, commit_time, history, IsNextCommit}
+use Rattle.reconcile.specs.declared.State.{State}
+use Rattle.reconcile.specs.Standing.{StandsFor}
+use Rattle.table_rules.specs.Broken.{first_broken, TellsOf, told}
+use Rattle.table_rules.specs.declared.broken.Broken.{Broken}
+use Rattle.table_rules.specs.declared.broken.Broken.TheVariants as broken
+use Rattle.table_model.specs.Log.{Commit, commit_at, commit_time, history}
 use Rattle.table_model.specs.Files.{file_at}
 use Rattle.table_model.specs.World.{WorldData, log_of}
-use Rattle.table_meddler.specs.Others.{ArePublished, IsNextIn, IsCommitOf}
+use Rattle.table_meddler.proofs.ReadWorlds.{read_log}
+use Rattle.table_meddler.specs.Others.{IsRead, ArePublished, IsNextIn, IsCommitOf}
 use Rattle.table_meddler.specs.Judging.{Tests}
 
 pub same_bytes : (o : Option (List ℕ)) (a b : List ℕ) → o ≡ Some a → o ≡ Some b → a ≡ b
@@ -17,7 +23,12 @@ same_bytes o a b e f = let g : Some a ≡ Some b = sym e ∙ f in cc
 
 -- an answer that is false where the condition fails
 pub tests_not : (tells : Bool) (P : Type 0) → (IsTrue tells → ¬ P) → Tests tells false P
-tests_not tells P no = λ t. (λ e. cc, λ p. absurd (no t p))
+tests_not tells P never = λ t. (λ e. absurd (false≢true e), λ p. absurd (never t p))
+
+-- a rule that is named is broken
+pub some_broken : (found : Option Broken) (b : Broken) → b ≢ broken.Memory → TellsOf (told b) found → found ≢ None
+some_broken found broken.Memory other h e = absurd (other refl)
+some_broken found b other h e = let k : None ≡ Some b = sym e ∙ h in cc
 
 pub not_next : (w : WorldData) (version id : ℕ) (time : ℤ) → version ≢ length w.records → ¬ (IsNextIn w version id time)
 not_next w version id time differ = λ h. differ h.next_version
@@ -27,14 +38,25 @@ not_staged w version id time gone = λ h. (let e : None ≡ Some h.bytes = sym g
 
 pub not_text : (w : WorldData) (version id : ℕ) (time : ℤ) (bytes : List ℕ) → file_at w.files (name.Staged version id) ≡ Some bytes
     → ¬ (IsCommitText bytes (actions_of bytes)) → ¬ (IsNextIn w version id time)
-not_text w version id time bytes there no = λ h. (
+not_text w version id time bytes there never = λ h. (
     let e : h.bytes ≡ bytes = same_bytes _ _ _ h.staged there in
-    no (subst (λ (b : List ℕ). IsCommitText b (actions_of b)) e h.next.text)
+    never (subst (λ (b : List ℕ). IsCommitText b (actions_of b)) e h.next.text)
     )
 
 pub time_is : (bytes : List ℕ) (actions : List Action) → actions ≡ actions_of bytes → unwrap_or (time_of_log (actions ∷ [])) (pos 0) ≡ commit_time bytes
 unfolding commit_time
 time_is bytes actions e = ap (λ (a : List Action). unwrap_or (time_of_log (a ∷ [])) (pos 0)) e
+
+-- the same, by the text that was read
+pub timed_as : (bytes text : List ℕ) (actions items : List Action) (time : ℤ) → text ≡ bytes → items ≡ actions_of text → actions ≡ items
+    → time ≡ unwrap_or (time_of_log (actions ∷ [])) (pos 0) → time ≡ commit_time bytes
+timed_as bytes text actions items time e f h is = is ∙ time_is bytes actions (h ∙ f ∙ ap actions_of e)
+
+pub text_as : (bytes text : List ℕ) → text ≡ bytes → IsCommitText text (actions_of text) → IsCommitText bytes (actions_of bytes)
+text_as bytes text e h = subst (λ (b : List ℕ). IsCommitText b (actions_of b)) e h
+
+pub state_on : (s : State) (w x : WorldData) → IsRead w x → StandsFor s (history (log_of x)) → StandsFor s (history (log_of w))
+state_on s w x r h = subst (λ (l : List Commit). StandsFor s (history l)) (read_log w x r) h
 
 pub not_timed : (w : WorldData) (version id : ℕ) (time : ℤ) (bytes : List ℕ) → file_at w.files (name.Staged version id) ≡ Some bytes
     → time ≢ commit_time bytes → ¬ (IsNextIn w version id time)

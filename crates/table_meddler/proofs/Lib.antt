@@ -1,4 +1,4 @@
 pub mod Afterwards
-pub mod Reads
+pub mod ReadWorlds
 pub mod Judged
 pub mod Made

@@ -1,6 +1,6 @@
 -- The turns of other callers: who may make them, and the later world that each leads to.
-use Rattle.std.proofs.Common.{◌≡◌, ◌≢◌, ◌<◌, ◌≤◌, ◌^◌, inl, inr, ℕ, Bool, true, false, List, [], ◌∷◌, length, take, refl, sym, ◌∙◌, ap, subst, arith, rules, Option, Some, None, IsTrue}
-use Rattle.std.specs.Prelude.{Result, Ok, Err, ℤ, Vec, All, Contains, ◌==◌, ◌+◌, drop, get_or}
+use Rattle.std.proofs.Common.{◌≡◌, ◌≢◌, ◌<◌, ◌≤◌, ◌^◌, inl, inr, ℕ, Bool, true, false, List, [], ◌∷◌, length, take, refl, sym, ◌∙◌, ap, subst, arith, IsTrue}
+use Rattle.std.specs.Prelude.{Result, ℤ, Vec, All, ◌==◌, ◌+◌, drop, get_or}
 use Rattle.std.specs.declared.alloc.Global.{Global}
 use Rattle.std.proofs.lemmas.List.{take_all, drop_more, drop_all}
 use Rattle.std.proofs.lemmas.List.Elements.{All-cons, All-nil}
@@ -14,12 +14,12 @@ use Rattle.object_store.specs.declared.store.Put.{Put}
 use Rattle.object_store.specs.declared.store.Gone.{Gone}
 use Rattle.table_model.specs.declared.answers.Staged.{Staged}
 use Rattle.table_model.specs.declared.answers.StepFault.{StepFault}
-use Rattle.table_model.specs.Log.{Commit, commit_at, commit_time, IsNextCommit}
+use Rattle.table_model.specs.Log.{Commit, IsNextCommit}
 use Rattle.table_model.specs.World.{WorldData, log_of}
 use Rattle.table_model.specs.Consistency.{IsConsistent}
 use Rattle.table_model.specs.Knowledge.{Knowledge, Triple, newcomer}
-use Rattle.table_model.specs.Holding.{HoldsIn, IsLater, IsKeptIn, terms_of}
-use Rattle.table_model.specs.Conditions.{MayRatify, MayPublish, MayReport, MayClear, triple}
+use Rattle.table_model.specs.Holding.{HoldsIn, IsKeptIn}
+use Rattle.table_model.specs.Conditions.{triple}
 use Rattle.table_model.specs.Turns.{CommitsTurn, ListTurn, GetTurn, StageTurn, RatifyTurn, PublishTurn, ReportTurn, ClearTurn}
 use Rattle.table_model.proofs.Growing.{starts_refl, le_refl}
 use Rattle.table_model.proofs.Worlds.{holds-newcomer}
@@ -31,6 +31,7 @@ use Rattle.table_model.proofs.Calls.{outcome-stage, outcome-publish, outcome-rep
 use Rattle.table_world.proofs.Kept.{Ratifiable, Publishable, Reportable, Clearable}
 use Rattle.table_meddler.specs.Others.{ArePublished, IsNextIn, IsCommitOf, IsRead, Meets, AreMade, IsDone}
 use Rattle.table_meddler.specs.Among.{LeadsTo}
+use Rattle.table_meddler.proofs.ReadWorlds.{read_tells, read_count}
 use Rattle.table_meddler.specs.declared.foreign.Foreign.{Foreign}
 use Rattle.table_meddler.specs.declared.foreign.Turn.{Turn}
 use Rattle.table_meddler.specs.declared.foreign.Fate.{Fate}
@@ -118,6 +119,45 @@ clearable w version c less = (
   less,
 )
 
+-- After files were read the conditions are the same.
+
+pub next_on : (w x : WorldData) (version id : ℕ) (time : ℤ) → IsRead w x → IsNextIn w version id time → IsNextIn x version id time
+next_on w x version id time r h =
+    let P : WorldData → Type 0 = λ y. IsNextIn y version id time in
+    subst P (sym r.same) (record { next_version = h.next_version; bytes = h.bytes; staged = h.staged; next = h.next; timed = h.timed })
+
+pub commit_on : (w x : WorldData) (version : ℕ) (text : List ℕ) → IsRead w x → IsCommitOf w version text → IsCommitOf x version text
+commit_on w x version text r h =
+    let P : WorldData → Type 0 = λ y. IsCommitOf y version text in
+    subst P (sym r.same) (record { ratified = h.ratified; below = h.below; text_is = h.text_is })
+
+pub published_on : (w x : WorldData) (count : ℕ) → IsRead w x → ArePublished w count → ArePublished x count
+published_on w x count r h = let P : WorldData → Type 0 = λ y. ArePublished y count in subst P (sym r.same) h
+
+pub clear_on : (w x : WorldData) (version : ℕ) → IsRead w x → version < w.reported → version < x.reported
+clear_on w x version r h = let P : WorldData → Type 0 = λ y. version < y.reported in subst P (sym r.same) h
+
+-- and whoever could act before can act
+
+tells_back : (w x : WorldData) → IsRead w x → IsTrue x.tells → IsTrue w.tells
+tells_back w x r t = sym (read_tells w x r) ∙ t
+
+pub ratify_ready : (w x : WorldData) (version id : ℕ) (time : ℤ) → IsRead w x → version ≡ length w.records → (IsTrue w.tells → IsNextIn w version id time)
+    → Ratifiable version id time x
+ratify_ready w x version id time r e h = ratifiable x version id time (e ∙ sym (read_count w x r)) (λ t. next_on w x version id time r (h (tells_back w x r t)))
+
+pub publish_ready : (w x : WorldData) (version : ℕ) (text : List ℕ) → IsRead w x → version < length w.records → (IsTrue w.tells → IsCommitOf w version text)
+    → Publishable version text x
+publish_ready w x version text r less h =
+    publishable x version text (let e = read_count w x r in omega (arith, e, less)) (λ t. commit_on w x version text r (h (tells_back w x r t)))
+
+pub report_ready : (w x : WorldData) (count : ℕ) → IsRead w x → count ≤ length w.records → (IsTrue w.tells → ArePublished w count) → Reportable count x
+report_ready w x count r le h =
+    reportable x count (let e = read_count w x r in omega (arith, e, le)) (λ t. published_on w x count r (h (tells_back w x r t)))
+
+pub clear_ready : (w x : WorldData) (version : ℕ) → IsRead w x → version < w.reported → Clearable version x
+clear_ready w x version r less = clearable x version r.consistent (clear_on w x version r less)
+
 -- Each turn leads to a later world.
 
 pub leads_commits : (w x : WorldData) (r : Result Commits StepFault) → IsConsistent w → CommitsTurn w r x → IsConsistent x → LeadsTo w x
@@ -158,9 +198,9 @@ made_more turns index number f w y x less is done rest =
     let e : drop index turns ≡ f ∷ drop (index + 1) turns = drop_more turns index f less ∙ ap (λ (g : Foreign). g ∷ drop (index + 1) turns) (sym is) in
     subst P (sym e) (y, done, rest)
 
-pub made_end : (turns : List Foreign) (number : ℕ) (w : WorldData) → AreMade (drop (length turns) turns) number w w
+pub made_end : (turns : List Foreign) (index number : ℕ) (w : WorldData) → length turns ≤ index → AreMade (drop index turns) number w w
 unfolding AreMade
-made_end turns number w = let P : List Foreign → Type 0 = λ fs. AreMade fs number w w in subst P (sym (drop_all (length turns) turns (le_refl _))) refl
+made_end turns index number w all = let P : List Foreign → Type 0 = λ fs. AreMade fs number w w in subst P (sym (drop_all index turns all)) refl
 
 pub done_at : (a n : ℕ) (t : Turn) (fate : Fate) (w x : WorldData) → a ≡ n → Meets t fate w x → IsDone (a == n) t w x
 done_at a n t fate w x e m = let P : Bool → Type 0 = λ b. IsDone b t w x in subst P (sym (eq-eqb a n e)) (fate, m)

@@ -3,7 +3,7 @@ use Rattle.std.specs.Prelude.{◌<◌}
 use Rattle.table_model.specs.World.{WorldData}
 use Rattle.table_model.specs.Consistency.{IsConsistent}
 use Rattle.table_model.specs.Knowledge.{Knowledge, IsGrown, IsValid}
-use Rattle.table_model.specs.Holding.{HoldsIn, IsLater}
+use Rattle.table_model.specs.Holding.{IsLater}
 use Rattle.table_world.specs.declared.notes.Notes.{Notes}
 use Rattle.table_world.specs.Noted.{known_of}
 use Rattle.table_world.specs.Done.{IsKnownIn}

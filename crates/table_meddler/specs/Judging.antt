@@ -1,7 +1,6 @@
 -- What is read of a world to judge the turns of other callers.
-use Rattle.std.specs.Prelude.{◌≡◌, ◌↔◌, ℕ, List, Bool, IsTrue, Option, Vec, option_map, MatchOption}
+use Rattle.std.specs.Prelude.{◌↔◌, ℕ, List, Bool, IsTrue, Option, Vec, option_map}
 use Rattle.std.specs.declared.alloc.Global.{Global}
-use Rattle.table_model.specs.World.{WorldData}
 
 -- a test is exact where the store tells what it holds
 abbrev pub Tests : Bool → Bool → Type 0 → Type 0

@@ -1,9 +1,9 @@
 //! The turns of other callers, each with the test of its condition.
 
-ghost use Rattle.std.specs.Prelude.{◌≡◌, ℕ};
+ghost use Rattle.std.specs.Prelude.{◌==◌};
 ghost use Rattle.table_model.specs.Consistency.{IsConsistent};
 ghost use Rattle.table_meddler.specs.declared.foreign.Turn.TheVariants as turn;
-ghost use Rattle.table_meddler.specs.Others.{Meets, AreMade};
+ghost use Rattle.table_meddler.specs.Others.{Meets, IsDone, AreMade};
 ghost use Rattle.table_meddler.specs.Among.{LeadsTo};
 
 use crate::foreign::{Fate, Foreign, Turn};
@@ -83,12 +83,13 @@ fn publish<S: Store>(world: &mut World<S>, alloc: Global, version: u64, bytes: &
     ensures meets { Meets (turn.Publish version bytes.now) result world.old world.new }
     ensures leads { LeadsTo world.old world.new }
 {
-    match may_publish(world, alloc, version, bytes.as_slice()) {
+    let text = bytes.as_slice();
+    match may_publish(world, alloc, version, text) {
         Ok(true) => {}
         Ok(false) => return Fate::Passed,
         Err(_) => return Fate::Untested,
     }
-    let _ = world.publish(alloc, version, bytes.as_slice());
+    let _ = world.publish(alloc, version, text);
     Fate::Made
 }
 
@@ -140,6 +141,18 @@ fn make<S: Store>(world: &mut World<S>, alloc: Global, turn: &Turn) -> Fate
     }
 }
 
+/// Another caller's turn, if it stands before the caller's turn of this number.
+fn make_before<S: Store>(world: &mut World<S>, alloc: Global, foreign: &Foreign, number: u64)
+    requires consistent { IsConsistent world.old }
+    ensures done { IsDone (foreign.now.before == number) foreign.now.turn world.old world.new }
+    ensures leads { LeadsTo world.old world.new }
+{
+    if foreign.before != number {
+        return;
+    }
+    let _ = make(world, alloc, &foreign.turn);
+}
+
 /// The turns of other callers that stand before the caller's turn of this number, in order.
 pub(crate) fn meddle<S: Store>(world: &mut World<S>, alloc: Global, turns: &[Foreign], number: u64)
     requires consistent { IsConsistent world.old }
@@ -147,8 +160,6 @@ pub(crate) fn meddle<S: Store>(world: &mut World<S>, alloc: Global, turns: &[For
     ensures leads { LeadsTo world.old world.new }
 {
     for foreign in turns {
-        if foreign.before == number {
-            make(world, alloc, &foreign.turn);
-        }
+        make_before(world, alloc, foreign, number);
     }
 }

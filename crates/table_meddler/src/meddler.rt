@@ -4,7 +4,7 @@ ghost use Rattle.table_model.specs.Consistency.{IsConsistent};
 ghost use Rattle.table_model.specs.Knowledge.{at_start};
 ghost use Rattle.table_model.specs.Holding.{terms_of};
 ghost use Rattle.table_meddler.specs.Among.{IsAmongAfter};
-ghost use Rattle.table_meddler.proofs.Afterwards.{among_refl, among_trans};
+ghost use Rattle.table_meddler.specs.Lasting.{among_refl, among_trans};
 
 use crate::foreign::Foreign;
 use crate::turns;

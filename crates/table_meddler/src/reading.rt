@@ -1,6 +1,6 @@
 //! What is read of a world: files, commits, and the state after all of them.
 
-ghost use Rattle.std.specs.Prelude.{◌≡◌, ◌<◌, ℕ, ⊥, IsTrue, IsSome, IfOk, MatchOption, length, is_some};
+ghost use Rattle.std.specs.Prelude.{◌≡◌, ◌<◌, ℕ, IsTrue, IsSome, IfOk, MatchOption, length, is_some};
 ghost use Rattle.log_names.specs.Texts.{name_text};
 ghost use Rattle.log_names.specs.declared.LogName.TheVariants as name;
 ghost use Rattle.action_json.specs.Text.{IsCommitText, actions_of};
@@ -92,8 +92,9 @@ pub(crate) fn commit_bytes<S: Store>(
     ensures read { IsRead world.old world.new }
     ensures bytes { IfOk result (λ found. IsTrue world.old.tells → MatchOption found ⊥ (λ bytes. bytes.items ≡ (commit_at (log_of world.old) version).bytes)) }
 {
-    if let Some(bytes) = file(world, alloc, LogName::Published(version))? {
-        return Ok(Some(bytes));
+    match file(world, alloc, LogName::Published(version))? {
+        Some(bytes) => return Ok(Some(bytes)),
+        None => {}
     }
     match recorded_id(world, version)? {
         Some(id) => file(world, alloc, LogName::Staged(version, id)),

@@ -7,7 +7,7 @@ mod store_turns;
 pub mod turns;
 mod world;
 
-pub use notes::{Kept, Notes};
+pub use notes::Notes;
 pub use solo::Solo;
 pub use table_model::{
     Bytes, Clearing, Commits, Gone, Limits, LogName, Looked, Mark, Put, Ratified, Ratify, Refusal,

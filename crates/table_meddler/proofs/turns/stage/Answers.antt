@@ -4,7 +4,7 @@ use Rattle.table_meddler.proofs.Afterwards.{known_on, done_among}
 use Rattle.table_meddler.proofs.turns.stage.Goals as goal
 
 pub stage-requires : goal.stage-requires
-stage-requires g c = known_on _ _ _ c.requires.known c.meddle.ensures.leads
+stage-requires g c = record { known = known_on _ _ _ c.requires.known c.meddle.ensures.leads }
 
 pub returns : goal.returns
 returns g c = done_among (λ t k. LearnsStage c.args.version c.args.id c.args.bytes.now k c.stage.result (known_of c.stage.new.world c.stage.new.notes)) _ _ _ _ _ _ c.requires.known c.meddle.ensures.leads c.stage.ensures

@@ -1,6 +1,6 @@
 -- Reading of a world, and what the files say that were read.
-use Rattle.std.proofs.Common.{◌≡◌, ◌≢◌, ◌<◌, ◌≤◌, ◌+◌, ◌-◌, ◌⊎◌, inl, inr, ℕ, Bool, true, false, List, [], ◌∷◌, ◌++◌, length, take, refl, sym, ◌∙◌, ap, subst, arith, rules, Option, Some, None, IsTrue, unwrap_or}
-use Rattle.std.specs.Prelude.{Result, Ok, Err, Vec, ◌↔◌, ⊥, MatchOption, is_some, slice_index_or}
+use Rattle.std.proofs.Common.{◌≡◌, ◌<◌, ◌≤◌, ◌+◌, ◌-◌, ◌⊎◌, inl, inr, ℕ, Bool, true, false, List, [], ◌∷◌, ◌++◌, length, take, refl, sym, ◌∙◌, ap, subst, arith, Option, Some, None, IsTrue, unwrap_or}
+use Rattle.std.specs.Prelude.{IfOk, Result, Ok, Err, Vec, MatchOption, is_some, slice_index_or}
 use Rattle.std.specs.declared.alloc.Global.{Global}
 use Rattle.std.proofs.lemmas.List.{take_more, take_all, map-append}
 use Rattle.log_names.specs.declared.LogName.{LogName}
@@ -10,7 +10,7 @@ use Rattle.commit_catalog.specs.declared.Entry.{Entry}
 use Rattle.commit_catalog.specs.Ratifying.{TellsCommits}
 use Rattle.object_store.specs.declared.store.Bytes.{Bytes}
 use Rattle.action_types.specs.declared.actions.Action.{Action}
-use Rattle.action_json.specs.Text.{actions_of}
+use Rattle.action_json.specs.Text.{IsCommitText, actions_of}
 use Rattle.reconcile.specs.declared.State.{State}
 use Rattle.reconcile.specs.Standing.{StandsFor}
 use Rattle.table_model.specs.declared.answers.StepFault.{StepFault}
@@ -31,6 +31,11 @@ use Rattle.table_model.proofs.Knowing.{log_commit, commit_file, length-log_of}
 use Rattle.table_meddler.specs.Others.{IsRead, ArePublished}
 use Rattle.table_meddler.specs.Judging.{Tests, items_of}
 use Rattle.table_meddler.specs.Among.{LeadsTo}
+
+-- what follows of an answer that is Ok
+pub if_ok : {A E : Type 0} (r : Result A E) (P Q : A → Type 0) → ((a : A) → P a → Q a) → IfOk r P → IfOk r Q
+if_ok (Ok a) P Q more h = more a h
+if_ok (Err e) P Q more h = tt
 
 pub read_same : (w x : WorldData) → x ≡ w → IsConsistent x → IsRead w x
 read_same w x e c = record {
@@ -88,6 +93,10 @@ leads_refl w c = record { later = later_refl w; consistent = c }
 
 pub leads_trans : (w x y : WorldData) → LeadsTo w x → LeadsTo x y → LeadsTo w y
 leads_trans w x y p q = record { later = later_trans w x y p.later q.later; consistent = q.consistent }
+
+pub some_items : (o : Option (Vec ℕ Global)) → is_some (items_of o) ≡ is_some o
+some_items None = refl
+some_items (Some v) = refl
 
 -- published files
 
@@ -151,6 +160,27 @@ staged_commit w version id found c t less gone e there =
     ap (λ (o : Option (List ℕ)). either_file o (file_at w.files (name.Staged version (entry_at w.records version).id))) gone in
     given found _ (sym there ∙ ap (λ (i : ℕ). file_at w.files (name.Staged version i)) e ∙ sym first ∙ whole)
 
+-- the same, where files and the catalogue were read meanwhile
+pub staged_found : (w x y : WorldData) (version id : ℕ) (found : Option (Vec ℕ Global)) → IsConsistent w → version < length w.records → IsRead w x → IsRead x y
+    → (IsTrue w.tells → file_at w.files (name.Published version) ≡ None) → id ≡ (entry_at x.records version).id
+    → (IsTrue y.tells → file_at y.files (name.Staged version id) ≡ items_of found) → IsTrue w.tells
+    → MatchOption found ⊥ (λ v. v.items ≡ (commit_at (log_of w) version).bytes)
+staged_found w x y version id found c less r s gone e there t =
+    let both : IsRead w y = read_trans w x y r s in
+    let recorded : id ≡ (entry_at w.records version).id = e ∙ ap (λ (es : List Entry). (entry_at es version).id) (read_records w x r) in
+    staged_commit w version id found c t less (gone t) recorded (sym (read_files w y both (name.Staged version id)) ∙ there (read_tells w y both ∙ t))
+
+-- the actions of the bytes of a version
+pub actions_found : (w : WorldData) (version : ℕ) (bytes : List ℕ) (found : Option (Vec Action Global)) → IsConsistent w → version < length w.records
+    → bytes ≡ (commit_at (log_of w) version).bytes
+    → MatchOption found (¬ (IsCommitText bytes (actions_of bytes))) (λ v. IsCommitText bytes (actions_of bytes) × (v.items ≡ actions_of bytes)) → IsTrue w.tells
+    → MatchOption found ⊥ (λ v. v.items ≡ actions_of (commit_at (log_of w) version).bytes)
+actions_found w version bytes None c less e h t =
+    let far : version < length (log_of w) = let f = length-log_of w in omega (arith, f, less) in
+    let text : IsCommitText (commit_at (log_of w) version).bytes (actions_of (commit_at (log_of w) version).bytes) = ((c.filed t).sound version far).text in
+    h (subst (λ (b : List ℕ). IsCommitText b (actions_of b)) (sym e) text)
+actions_found w version bytes (Some v) c less e h t = h.1 ∙ ap actions_of e
+
 -- a reported version has its published file
 pub reported_there : (w : WorldData) (version : ℕ) → IsConsistent w → IsTrue w.tells → version < w.reported → file_at w.files (name.Published version) ≡ None → ⊥
 reported_there w version c t less gone = let there : is_some (file_at w.files (name.Published version)) ≡ true = (c.filed t).reported version less in let e : false ≡ true = sym (ap is_some gone) ∙ there in cc
@@ -165,6 +195,14 @@ replayed s log version actions less is stands =
     let same : history (take (version + 1) log) ≡ history (take version log) ++ actions ∷ [] =
     more ∙ ap (λ (a : List Action). history (take version log) ++ a ∷ []) (sym is) in
     subst (StandsFor s) (sym same) stands
+
+pub replay_step : (s : State) (w x : WorldData) (version : ℕ) (actions : List Action) → IsRead w x → version < length w.records
+    → (IsTrue x.tells → actions ≡ actions_of (commit_at (log_of x) version).bytes)
+    → (IsTrue w.tells → StandsFor s (history (take version (log_of w)) ++ actions ∷ [])) → IsTrue w.tells
+    → StandsFor s (history (take (version + 1) (log_of w)))
+replay_step s w x version actions r less is stands t =
+    replayed s (log_of w) version actions (let e = length-log_of w in omega (arith, e, less))
+    (is (read_tells w x r ∙ t) ∙ ap (λ (l : List Commit). actions_of (commit_at l version).bytes) (read_log w x r)) (stands t)
 
 pub replayed_all : (s : State) (log : List Commit) (count : ℕ) → length log ≤ count → StandsFor s (history (take count log)) → StandsFor s (history log)
 replayed_all s log count all stands = subst (λ (l : List Commit). StandsFor s (history l)) (take_all count log all) stands
