@@ -4,9 +4,10 @@
 mod notes;
 mod solo;
 mod store_turns;
-mod turns;
+pub mod turns;
 mod world;
 
+pub use notes::Notes;
 pub use solo::Solo;
 pub use table_model::{
     Bytes, Clearing, Commits, Gone, Limits, LogName, Looked, Mark, Put, Ratified, Ratify, Refusal,

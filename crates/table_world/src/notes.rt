@@ -61,7 +61,7 @@ impl Notes {
     ghost use Rattle.table_world.specs.Noted.{noted, HasRoom};
 
     /// Nothing known. It takes no memory.
-    pub(crate) fn new(alloc: Global) -> Notes
+    pub fn new(alloc: Global) -> Notes
         ensures seen { result.seen ≡ 0 }
         ensures nothing { noted result ≡ newcomer }
     {

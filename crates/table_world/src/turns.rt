@@ -17,7 +17,7 @@ use std::alloc::Global;
 use table_model::{Staged, StepFault};
 
 /// The catalogue now.
-pub(crate) fn commits<S: Store>(
+pub fn commits<S: Store>(
     world: &mut World<S>,
     notes: &mut Notes,
 ) -> Result<Commits, StepFault>
@@ -37,7 +37,7 @@ pub(crate) fn commits<S: Store>(
 }
 
 /// The names of the log in the folder.
-pub(crate) fn list<S: Store>(
+pub fn list<S: Store>(
     world: &mut World<S>,
     notes: &mut Notes,
     alloc: Global,
@@ -57,7 +57,7 @@ pub(crate) fn list<S: Store>(
 }
 
 /// The file of a name that has a text.
-pub(crate) fn get<S: Store>(
+pub fn get<S: Store>(
     world: &mut World<S>,
     notes: &mut Notes,
     alloc: Global,
@@ -80,7 +80,7 @@ pub(crate) fn get<S: Store>(
 }
 
 /// Stages a commit of a version under an id.
-pub(crate) fn stage<S: Store>(
+pub fn stage<S: Store>(
     world: &mut World<S>,
     notes: &mut Notes,
     alloc: Global,
@@ -105,7 +105,7 @@ pub(crate) fn stage<S: Store>(
 }
 
 /// Ratifies a staged commit as a version.
-pub(crate) fn ratify<S: Store>(
+pub fn ratify<S: Store>(
     world: &mut World<S>,
     notes: &mut Notes,
     version: u64,
@@ -129,7 +129,7 @@ pub(crate) fn ratify<S: Store>(
 }
 
 /// Publishes a ratified version.
-pub(crate) fn publish<S: Store>(
+pub fn publish<S: Store>(
     world: &mut World<S>,
     notes: &mut Notes,
     alloc: Global,
@@ -153,7 +153,7 @@ pub(crate) fn publish<S: Store>(
 }
 
 /// Reports that the versions below `count` are published.
-pub(crate) fn report<S: Store>(
+pub fn report<S: Store>(
     world: &mut World<S>,
     notes: &mut Notes,
     count: u64,
@@ -175,7 +175,7 @@ pub(crate) fn report<S: Store>(
 }
 
 /// Clears the staged file of a reported version.
-pub(crate) fn clear<S: Store>(
+pub fn clear<S: Store>(
     world: &mut World<S>,
     notes: &mut Notes,
     alloc: Global,

@@ -1,0 +1,65 @@
+-- What stays for one caller of a world in which others act.
+use Rattle.std.proofs.Common.{◌≡◌, ℕ, ℤ, List, Bool, sym, subst, arith}
+use Rattle.table_model.specs.World.{WorldData}
+use Rattle.table_model.specs.Knowledge.{Knowledge, IsGrown}
+use Rattle.table_model.specs.Holding.{HoldsIn, IsLater}
+use Rattle.table_model.specs.Conditions.{MayRatify, MayPublish}
+use Rattle.table_model.proofs.Growing.{le_trans}
+use Rattle.table_model.proofs.Worlds.{later_trans, holds_later}
+use Rattle.table_world.specs.declared.notes.Notes.{Notes}
+use Rattle.table_world.specs.Noted.{noted, known_of}
+use Rattle.table_world.specs.Done.{IsKnownIn, HasDone}
+use Rattle.table_world.proofs.TurnNotes.{known_moved}
+use Rattle.table_meddler.specs.Among.{LeadsTo, HasDoneAmong}
+
+-- what is known is the same after turns of others
+pub known_same : (w x : WorldData) (n : Notes) → IsKnownIn w n → IsLater w x → known_of x n ≡ known_of w n
+known_same w x n k later = known_moved (noted n) w x n.seen later k.seen
+
+-- and it is true still
+pub known_on : (w x : WorldData) (n : Notes) → IsKnownIn w n → LeadsTo w x → IsKnownIn x n
+known_on w x n k l =
+    let P : Knowledge → Type 0 = λ m. HoldsIn x m in
+    record {
+      consistent = l.consistent;
+      holds = subst P (sym (known_same w x n k l.later)) (holds_later w x (known_of w n) k.holds l.later);
+      seen = le_trans _ _ _ k.seen l.later.records;
+    }
+
+-- a turn of the caller after turns of others
+pub done_among : (L : Bool → Knowledge → Type 0) (T : Type 0) (w y x : WorldData) (n m : Notes) → IsKnownIn w n → LeadsTo w y
+    → HasDone T (L y.tells (known_of y n)) y n x m → HasDoneAmong (L w.tells (known_of w n)) w n x m
+done_among L T w y x n m k l h =
+    let same : known_of y n ≡ known_of w n = known_same w y n k l.later in
+    let P : Knowledge → Type 0 = λ j. L y.tells j in
+    let Q : Bool → Type 0 = λ t. L t (known_of w n) in
+    let G : Knowledge → Type 0 = λ j. IsGrown j (known_of x m) in
+    record {
+      learnt = subst Q l.later.tells (subst P same h.learnt);
+      grows = subst G same h.grows;
+      valid = h.valid;
+      after = record {
+        later = later_trans w y x l.later h.after.later;
+        cause = λ less. (let f = h.after.cause less in let g = l.later.tally in omega (arith, f, g));
+      };
+      known = h.known;
+    }
+
+-- what the caller may do it may do after turns of others
+pub may_ratify_on : (w x : WorldData) (n : Notes) (version id : ℕ) (time : ℤ) → IsKnownIn w n → LeadsTo w x
+    → MayRatify w.tells (known_of w n) version id time → MayRatify x.tells (known_of x n) version id time
+may_ratify_on w x n version id time k l m =
+    let P : Knowledge → Type 0 = λ j. MayRatify w.tells j version id time in
+    let Q : Bool → Type 0 = λ t. MayRatify t (known_of x n) version id time in
+    subst Q (sym l.later.tells) (subst P (sym (known_same w x n k l.later)) m)
+
+pub may_publish_on : (w x : WorldData) (n : Notes) (version : ℕ) (text : List ℕ) → IsKnownIn w n → LeadsTo w x
+    → MayPublish w.tells (known_of w n) version text → MayPublish x.tells (known_of x n) version text
+may_publish_on w x n version text k l m =
+    let P : Knowledge → Type 0 = λ j. MayPublish w.tells j version text in
+    let Q : Bool → Type 0 = λ t. MayPublish t (known_of x n) version text in
+    subst Q (sym l.later.tells) (subst P (sym (known_same w x n k l.later)) m)
+
+-- a condition on what is known alone
+pub may_on : (P : Knowledge → Type 0) (w x : WorldData) (n : Notes) → IsKnownIn w n → LeadsTo w x → P (known_of w n) → P (known_of x n)
+may_on P w x n k l m = subst P (sym (known_same w x n k l.later)) m

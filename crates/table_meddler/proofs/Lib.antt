@@ -1,0 +1,4 @@
+pub mod Afterwards
+pub mod ReadWorlds
+pub mod Judged
+pub mod Made

@@ -1,0 +1,6 @@
+use Rattle.std.proofs.Common.{rules}
+use Rattle.table_meddler.proofs.ReadWorlds.{read_refl}
+use Rattle.table_meddler.proofs.making.get.Goals as goal
+
+pub returns-clause-meets : goal.returns-clause-meets
+returns-clause-meets g c = record { tested = c.args.world.now; read = read_refl _ c.requires.consistent; allowed = λ t. search rules; made = (c.get.result, c.get.ensures.turn) }

@@ -1,0 +1,11 @@
+use Rattle.table_meddler.proofs.ReadWorlds.{get_read}
+use Rattle.table_meddler.proofs.reading.file.Goals as goal
+
+pub returns-in-Ok-Whole-clause-read : goal.returns-in-Ok-Whole-clause-read
+returns-in-Ok-Whole-clause-read g c = get_read c.args.name _ _ c.get.result c.get.ensures.consistent c.get.ensures.turn
+
+pub returns-in-Ok-Absent-clause-read : goal.returns-in-Ok-Absent-clause-read
+returns-in-Ok-Absent-clause-read g c = get_read c.args.name _ _ c.get.result c.get.ensures.consistent c.get.ensures.turn
+
+pub returns-in-Err-clause-read : goal.returns-in-Err-clause-read
+returns-in-Err-clause-read g c = get_read c.args.name _ _ c.get.result c.get.ensures.consistent c.get.ensures.turn

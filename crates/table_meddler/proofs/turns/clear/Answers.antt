@@ -1,0 +1,14 @@
+use Rattle.table_model.specs.Conditions.{MayClear}
+use Rattle.table_model.specs.Learning.{LearnsClear}
+use Rattle.table_world.specs.Noted.{known_of}
+use Rattle.table_meddler.proofs.Afterwards.{known_on, done_among, may_on}
+use Rattle.table_meddler.proofs.turns.clear.Goals as goal
+
+pub clear-requires-clause-known : goal.clear-requires-clause-known
+clear-requires-clause-known g c = known_on _ _ _ c.requires.known c.meddle.ensures.leads
+
+pub clear-requires-clause-may : goal.clear-requires-clause-may
+clear-requires-clause-may g c = may_on (λ k. MayClear k c.args.version) _ _ _ c.requires.known c.meddle.ensures.leads c.requires.may
+
+pub returns : goal.returns
+returns g c = done_among (λ t k. LearnsClear c.args.version c.args.id k c.clear.result (known_of c.clear.new.world c.clear.new.notes)) _ _ _ _ _ _ c.requires.known c.meddle.ensures.leads c.clear.ensures

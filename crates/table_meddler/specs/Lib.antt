@@ -1,0 +1,4 @@
+pub mod Others
+pub mod Judging
+pub mod Among
+pub mod Lasting

@@ -1,0 +1,205 @@
+ghost use Rattle.std.specs.Prelude.{◌≡◌, None};
+ghost use Rattle.table_model.specs.World.{WorldData};
+ghost use Rattle.table_model.specs.Consistency.{IsConsistent};
+ghost use Rattle.table_model.specs.Knowledge.{at_start};
+ghost use Rattle.table_model.specs.Holding.{terms_of};
+ghost use Rattle.table_meddler.specs.Among.{IsAmongAfter};
+ghost use Rattle.table_meddler.specs.Lasting.{among_refl, among_trans};
+
+use crate::foreign::Foreign;
+use crate::turns;
+use commit_catalog::{Commits, Limits, Ratify};
+use log_names::LogName;
+use object_store::{Bytes, Gone, Put, Store};
+use std::alloc::Global;
+use std::marker::Model;
+use table_model::{Staged, StepFault, Steps};
+use table_world::{Notes, World};
+
+/// One caller of a world in which others act between its turns: theirs are those of a list, each made before the
+/// caller's turn of its number and passed over where its condition does not hold. The caller keeps what it knows beside
+/// the world. What the others' turns cost the store is counted there, and not among the caller's faults.
+pub struct Meddler<S: Store> {
+    world: World<S>,
+    notes: Notes,
+    others: Vec<Foreign>,
+    turns: u64,
+}
+
+impl<S: Store> Model for Meddler<S> {
+    ghost use Rattle.std.specs.Prelude.{◌≡◌};
+    ghost use Rattle.std.specs.Coded.{codes};
+    ghost use Rattle.object_store.specs.Files.{files_code};
+    ghost use Rattle.table_world.specs.Noted.{known_of};
+    ghost use Rattle.table_world.specs.Done.{IsKnownIn};
+    ghost use Rattle.table_meddler.specs.Among.{Among};
+
+    ghost Value = { Among };
+
+    ghost coded = { Prim.hlevel (codes, files_code) };
+
+    ghost view = { λ m. record { world = m.world; known = known_of m.world m.notes } };
+
+    ghost invariant = { λ m. IsKnownIn m.world m.notes × (m.world.tells ≡ S.tells) };
+}
+
+impl<S: Store> Meddler<S> {
+    /// A caller who knows nothing yet of the world and has made no turn, with the turns of the others in the order in
+    /// which those before one turn are made. It takes no memory.
+    pub fn new(alloc: Global, world: World<S>, turns: Vec<Foreign>) -> Meddler<S>
+        ensures world { result.world ≡ world }
+        ensures nothing { result.known ≡ at_start (terms_of world) }
+    {
+        let _count = world.count();
+        Meddler {
+            world,
+            notes: Notes::new(alloc),
+            others: turns,
+            turns: 0,
+        }
+    }
+
+    /// The world.
+    pub fn into_world(self) -> World<S>
+        ensures world { result ≡ self.world }
+        ensures consistent { IsConsistent result }
+    {
+        let Meddler {
+            world,
+            notes: _,
+            others: _,
+            turns: _,
+        } = self;
+        world
+    }
+}
+
+impl<S: Store> Steps for Meddler<S> {
+    ghost known = { λ m. m.known };
+
+    ghost tells = { S.tells };
+
+    ghost world = { λ _. None };
+
+    ghost after = { IsAmongAfter };
+
+    fn limits(&self) -> Limits {
+        self.world.limits()
+    }
+
+    fn commits(&mut self, alloc: Global) -> Result<Commits, StepFault> {
+        self.turns = self.turns.saturating_add(1);
+        turns::commits(
+            &mut self.world,
+            &mut self.notes,
+            self.others.as_slice(),
+            self.turns,
+            alloc,
+        )
+    }
+
+    fn list(&mut self, alloc: Global) -> Result<Vec<LogName>, StepFault> {
+        self.turns = self.turns.saturating_add(1);
+        turns::list(
+            &mut self.world,
+            &mut self.notes,
+            self.others.as_slice(),
+            self.turns,
+            alloc,
+        )
+    }
+
+    fn get(&mut self, alloc: Global, name: LogName) -> Result<Bytes, StepFault> {
+        self.turns = self.turns.saturating_add(1);
+        turns::get(
+            &mut self.world,
+            &mut self.notes,
+            self.others.as_slice(),
+            self.turns,
+            alloc,
+            name,
+        )
+    }
+
+    fn stage(
+        &mut self,
+        alloc: Global,
+        version: u64,
+        id: u128,
+        bytes: &[u8],
+    ) -> Result<Staged, StepFault> {
+        self.turns = self.turns.saturating_add(1);
+        turns::stage(
+            &mut self.world,
+            &mut self.notes,
+            self.others.as_slice(),
+            self.turns,
+            alloc,
+            version,
+            id,
+            bytes,
+        )
+    }
+
+    fn ratify(
+        &mut self,
+        alloc: Global,
+        version: u64,
+        id: u128,
+        time: i64,
+    ) -> Result<Ratify, StepFault> {
+        self.turns = self.turns.saturating_add(1);
+        turns::ratify(
+            &mut self.world,
+            &mut self.notes,
+            self.others.as_slice(),
+            self.turns,
+            alloc,
+            version,
+            id,
+            time,
+        )
+    }
+
+    fn publish(&mut self, alloc: Global, version: u64, bytes: &[u8]) -> Result<Put, StepFault> {
+        self.turns = self.turns.saturating_add(1);
+        turns::publish(
+            &mut self.world,
+            &mut self.notes,
+            self.others.as_slice(),
+            self.turns,
+            alloc,
+            version,
+            bytes,
+        )
+    }
+
+    fn report(&mut self, alloc: Global, count: u64) -> Result<u64, StepFault> {
+        self.turns = self.turns.saturating_add(1);
+        turns::report(
+            &mut self.world,
+            &mut self.notes,
+            self.others.as_slice(),
+            self.turns,
+            alloc,
+            count,
+        )
+    }
+
+    fn clear(&mut self, alloc: Global, version: u64, id: u128) -> Result<Gone, StepFault> {
+        self.turns = self.turns.saturating_add(1);
+        turns::clear(
+            &mut self.world,
+            &mut self.notes,
+            self.others.as_slice(),
+            self.turns,
+            alloc,
+            version,
+            id,
+        )
+    }
+
+    ghost after_same = { among_refl };
+
+    ghost after_both = { among_trans };
+}
