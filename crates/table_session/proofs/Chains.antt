@@ -1,16 +1,14 @@
 -- From the moments of a session, each right, to what they say together.
-use Rattle.std.proofs.Common.{◌≡◌, ◌≤◌, ◌+◌, ℕ, max, Bool, IsTrue, List, [], ◌∷◌, ◌++◌, length, refl, sym, ◌∙◌, ap, subst, append_assoc, append-nil, arith, Option, Some, None, unwrap_or}
+use Rattle.std.proofs.Common.{◌≡◌, ◌≤◌, ◌+◌, ℕ, Bool, List, [], ◌∷◌, ◌++◌, length, sym, ◌∙◌, ap, subst, append_assoc, append-nil, arith, Option, Some, None, unwrap_or}
 use Rattle.std.specs.Prelude.{All, IfSome}
 use Rattle.std.proofs.lemmas.List.Elements.{All-nil, All-cons}
-use Rattle.log_names.specs.declared.LogName.{LogName}
-use Rattle.table_model.specs.declared.answers.Spot.{Spot}
 use Rattle.table_model.specs.Log.{Commit}
 use Rattle.table_model.specs.Knowledge.{Knowledge, IsGrown, StartsWith}
 use Rattle.table_model.proofs.Growing.{grows_refl, grows_trans, starts_refl, starts_trans}
 use Rattle.session_lines.specs.declared.reply.Reply.{Reply}
 use Rattle.table_session.specs.Moments.{Moment}
 use Rattle.table_session.specs.Naming.{front_of, base_of, versions_of, spots_of, takens_of, tries_of}
-use Rattle.table_session.specs.Gaining.{known_length, times, one_for, IsFront, Gains}
+use Rattle.table_session.specs.Gaining.{known_length, times, one_for, IsFront}
 use Rattle.table_session.specs.Standing.{Stands}
 use Rattle.table_session.specs.Running.{IsRight, Run}
 use Rattle.table_session.specs.Told.{versions_in, total, IsFrom, FrontsRise, FrontsWithin, Told}

@@ -1,11 +1,10 @@
 -- How a session ends, from what was heard and said until then.
-use Rattle.std.proofs.Common.{◌≡◌, ◌⊎◌, inl, inr, ◌+◌, ◌≤◌, ◌<◌, ℕ, ℤ, Bool, true, IsTrue, List, [], ◌∷◌, ◌++◌, length, filter, refl, sym, ◌∙◌, ap, subst, append_assoc, append-nil, arith}
-use Rattle.std.specs.Prelude.{All}
+use Rattle.std.proofs.Common.{◌≡◌, ◌⊎◌, inl, inr, ◌+◌, ℕ, ℤ, Bool, true, IsTrue, List, [], ◌∷◌, ◌++◌, length, filter, refl, sym, ◌∙◌, ap, subst, append_assoc, append-nil, arith}
 use Rattle.std.proofs.lemmas.List.Elements.{filter-append}
-use Rattle.text_lines.specs.Lines.{Numbered, numbered, numbered_from, cut, ended_lines}
+use Rattle.text_lines.specs.Lines.{Numbered, numbered, numbered_from, cut}
 use Rattle.text_lines.proofs.Numbering.{numbered-append}
-use Rattle.lake_io.specs.Told.{Takes, told, WritesSome}
-use Rattle.lake_io.specs.Reading.{At, at_start, Heard, HeardFirst}
+use Rattle.lake_io.specs.Told.{told}
+use Rattle.lake_io.specs.Reading.{At, HeardFirst}
 use Rattle.lake_io.specs.declared.answers.End.{End}
 use Rattle.lake_io.specs.declared.answers.End.TheVariants as end
 use Rattle.lake_io.proofs.Telling.{told-append, takes_both}
@@ -14,7 +13,7 @@ use Rattle.session_lines.specs.Replies.{reply_text_of}
 use Rattle.table_model.specs.Knowledge.{Knowledge}
 use Rattle.table_session.specs.Moments.{Moment, lines_of, texts_of}
 use Rattle.table_session.specs.Asking.{gets_reply, lines_asking}
-use Rattle.table_session.specs.Running.{IsRight, Run}
+use Rattle.table_session.specs.Running.{IsRight}
 use Rattle.table_session.specs.Hearing.{HearsLine, HearsEnd, HeardEnd}
 use Rattle.table_session.specs.Speaking.{SaidShort}
 use Rattle.table_session.specs.Sessions.{IsFirstOf, HeardMost, WroteAll, WroteShort, WroteSome, Wrote, Session, SessionOf}

@@ -1,8 +1,7 @@
 -- What a reply owes to its moment, from what its call left.
-use Rattle.std.proofs.Common.{◌≡◌, ◌≤◌, ◌+◌, ℕ, max, Bool, IsTrue, zero, suc, ◌<◌, List, [], ◌∷◌, ◌++◌, length, filter, refl, sym, ◌∙◌, ap, subst, length-append, append-nil, arith, Option, Some, None, true, false, cond, inl, inr, ◌⊎◌}
+use Rattle.std.proofs.Common.{◌≡◌, ◌≤◌, ◌+◌, ℕ, Bool, IsTrue, zero, suc, ◌<◌, List, [], ◌∷◌, ◌++◌, length, filter, refl, sym, ◌∙◌, ap, subst, length-append, append-nil, arith, true, false, cond, inl, inr}
 use Rattle.std.specs.Prelude.{IfSome, Contains, slice_index_or}
 use Rattle.std.proofs.lemmas.List.Elements.{filter-append}
-use Rattle.log_names.specs.declared.LogName.{LogName}
 use Rattle.table_model.specs.declared.answers.Spot.{Spot}
 use Rattle.table_model.specs.Knowledge.{Knowledge, IsGrown, StartsWith}
 use Rattle.session_lines.specs.declared.reply.Reply.{Reply}

@@ -7,3 +7,4 @@ pub mod Gained
 pub mod Rights
 pub mod Wholes
 pub mod Writings
+pub mod Loop

@@ -1,6 +1,5 @@
 -- One call that hears the next line, from what the reader of lines answers.
-use Rattle.std.proofs.Common.{◌≡◌, ◌⊎◌, inl, inr, ℕ, Bool, List, ◌++◌, length, refl, sym, ◌∙◌, Option, Some, None, Result, Ok, Err}
-use Rattle.lake_io.specs.Told.{Takes}
+use Rattle.std.proofs.Common.{◌≡◌, ◌⊎◌, inl, inr, ℕ, Bool, List, refl, Option, Some, None, Result, Ok, Err}
 use Rattle.lake_io.specs.Causes.{Rose}
 use Rattle.lake_io.specs.Reading.{At, Heard, LineCause, Next}
 use Rattle.lake_io.specs.declared.answers.End.TheVariants as end

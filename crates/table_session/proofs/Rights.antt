@@ -1,13 +1,12 @@
 -- The replies of each kind of line are right.
-use Rattle.std.proofs.Common.{◌≡◌, ◌≤◌, ◌<◌, ◌+◌, ℕ, ℤ, max, Bool, true, false, cond, IsTrue, List, [], ◌∷◌, ◌++◌, length, refl, sym, ◌∙◌, ap, subst, append-nil, arith, inl, inr, Option, Some, None, Result, Ok, Err}
-use Rattle.std.specs.Prelude.{IfSome, IfOk, IfErr, IsSomeAnd, nat_le}
+use Rattle.std.proofs.Common.{◌≡◌, ◌≤◌, ◌<◌, ℕ, ℤ, Bool, false, cond, [], ◌++◌, length, refl, sym, ◌∙◌, ap, subst, append-nil, arith, inl, inr, Result, Ok, Err}
+use Rattle.std.specs.Prelude.{IfOk, IfErr, IsSomeAnd}
 use Rattle.std.proofs.lemmas.Bool.{le-leb}
 use Rattle.std.proofs.lemmas.Bool.Decides.{leb_tells}
 use Rattle.text_lines.specs.Lines.{Numbered}
 use Rattle.lake_io.specs.Reading.{line_limit}
 use Rattle.action_fields.specs.Gives.{Gives}
 use Rattle.table_model.specs.declared.answers.Spot.{Spot}
-use Rattle.table_model.specs.Log.{Commit}
 use Rattle.table_model.specs.Knowledge.{Knowledge, IsGrown}
 use Rattle.table_model.proofs.Growing.{grows_refl}
 use Rattle.snapshot_load.specs.declared.answers.Snapshot.{Snapshot}
@@ -28,12 +27,12 @@ use Rattle.session_lines.specs.Faults.{told}
 use Rattle.session_lines.specs.Requests.{request_of}
 use Rattle.table_session.specs.Moments.{Moment, moment}
 use Rattle.table_session.specs.Asking.{asked_by, is_within_limit}
-use Rattle.table_session.specs.Naming.{spot_of, front_of, spots_of, takens_of, tries_of}
+use Rattle.table_session.specs.Naming.{spots_of, takens_of, tries_of}
 use Rattle.table_session.specs.Telling.{loaded_as}
-use Rattle.table_session.specs.Replying.{file_of, loaded_reply, refusal_reply}
-use Rattle.table_session.specs.Standing.{LoadedStands, LoadStands, StandsTo, Stands}
-use Rattle.table_session.specs.Owning.{LoadMoment, OwnTo, Own}
-use Rattle.table_session.specs.Gaining.{IsFront, Gains}
+use Rattle.table_session.specs.Replying.{loaded_reply, refusal_reply}
+use Rattle.table_session.specs.Standing.{LoadStands, StandsTo}
+use Rattle.table_session.specs.Owning.{LoadMoment, OwnTo}
+use Rattle.table_session.specs.Gaining.{Gains}
 use Rattle.table_session.specs.Running.{IsRight}
 use Rattle.table_session.proofs.Lasting.{length_longer}
 use Rattle.table_session.proofs.Gained.{IsFrontOf, gains_quiet, gains_fault, spot_of-file_of}

@@ -1,22 +1,21 @@
 -- A session in its course: what was heard and said so far, and one line more.
-use Rattle.std.proofs.Common.{◌≡◌, ◌+◌, ◌≤◌, ◌<◌, ℕ, ℤ, Bool, true, false, IsTrue, List, [], ◌∷◌, ◌++◌, length, map, filter, flat_map, refl, sym, ◌∙◌, ap, subst, append_assoc, append-nil, arith, cond}
+use Rattle.std.proofs.Common.{◌≡◌, ◌+◌, ℕ, ℤ, Bool, true, false, IsTrue, List, [], ◌∷◌, ◌++◌, length, filter, refl, sym, ◌∙◌, ap, subst, append_assoc, append-nil, arith, cond}
 use Rattle.std.specs.Prelude.{All}
 use Rattle.std.proofs.lemmas.List.{map-append}
 use Rattle.std.proofs.lemmas.List.Elements.{All-nil, All-cons, All-append, filter-append}
 use Rattle.std.proofs.lemmas.List.Concat.{flat_map-append}
-use Rattle.text_lines.specs.Lines.{Numbered, numbered, numbered_from}
+use Rattle.text_lines.specs.Lines.{numbered, numbered_from}
 use Rattle.text_lines.proofs.Numbering.{numbered-nil, numbered-line, numbered-append}
 use Rattle.lake_io.specs.Told.{Takes, told}
 use Rattle.lake_io.specs.Reading.{At, at_start, Heard}
 use Rattle.lake_io.proofs.Telling.{told-append, told-nil, takes_none, takes_both}
 use Rattle.lake_io.proofs.Hearing.{heard_start}
-use Rattle.session_lines.specs.declared.reply.Reply.{Reply}
 use Rattle.session_lines.specs.Replies.{reply_text_of}
 use Rattle.table_model.specs.Knowledge.{Knowledge}
 use Rattle.table_session.specs.Moments.{Moment, lines_of, texts_of}
 use Rattle.table_session.specs.Asking.{gets_reply, lines_asking}
 use Rattle.table_session.specs.Running.{IsRight, Run}
-use Rattle.table_session.specs.Hearing.{IsAskedIn, HearsLine}
+use Rattle.table_session.specs.Hearing.{HearsLine}
 use Rattle.table_session.specs.declared.hearing.Asked.{Asked}
 
 -- what the caller knew before the session, and the clock's reading then; what was told of source and sink then

@@ -1,5 +1,5 @@
 -- The replies of a session over a log, and those that were written whole.
-use Rattle.std.proofs.Common.{◌≡◌, ◌≤◌, ◌<◌, ◌+◌, ◌⊎◌, inl, inr, ℕ, Bool, List, [], ◌∷◌, ◌++◌, length, refl, sym, ◌∙◌, ap, subst, length-append, append-nil, arith, Option, Some, None, unwrap_or}
+use Rattle.std.proofs.Common.{◌≡◌, ◌≤◌, ◌+◌, ◌⊎◌, inl, inr, ℕ, Bool, List, [], ◌∷◌, ◌++◌, length, refl, sym, ◌∙◌, ap, subst, length-append, append-nil, arith, Option, Some, None, unwrap_or}
 use Rattle.std.specs.Prelude.{All, IfSome, slice_index_or}
 use Rattle.std.proofs.lemmas.List.Elements.{All-nil, All-cons}
 use Rattle.std.proofs.lemmas.List.Concat.{flat_map-append}
@@ -12,7 +12,6 @@ use Rattle.table_model.specs.Knowledge.{Knowledge, StartsWith}
 use Rattle.table_session.specs.Moments.{Moment}
 use Rattle.table_session.specs.Naming.{front_of, base_of, versions_of}
 use Rattle.table_session.specs.Gaining.{known_length}
-use Rattle.table_session.specs.Standing.{Stands}
 use Rattle.table_session.specs.Told.{versions_in, IsFrom, FrontsRise, FrontsWithin, Told}
 use Rattle.table_session.specs.Over.{ToldOver, IsWhole}
 use Rattle.table_session.specs.Sessions.{Wrote, Session}

@@ -1,5 +1,5 @@
 -- The replies to a create and to a write are right.
-use Rattle.std.proofs.Common.{◌≡◌, ◌≤◌, ◌<◌, ◌+◌, ℕ, ℤ, max, Bool, IsTrue, List, [], ◌∷◌, ◌++◌, length, refl, sym, ◌∙◌, ap, subst, length-append, append-nil, arith, Option, Some, None, Result, Ok, Err}
+use Rattle.std.proofs.Common.{◌≡◌, ◌≤◌, ◌+◌, ℕ, ℤ, Bool, List, [], ◌++◌, length, refl, sym, ◌∙◌, ap, subst, length-append, append-nil, arith, Option, Some, None, Result, Ok, Err}
 use Rattle.std.specs.Prelude.{IfSome, IsSomeAnd}
 use Rattle.text_lines.specs.Lines.{Numbered}
 use Rattle.conflict_rules.specs.declared.intent.Intent.{Intent}
@@ -7,9 +7,7 @@ use Rattle.staged_commit.specs.declared.create.Create.{Create}
 use Rattle.table_model.specs.declared.answers.Spot.{Spot}
 use Rattle.table_model.specs.Log.{Commit}
 use Rattle.table_model.specs.Knowledge.{Knowledge, IsGrown}
-use Rattle.log_names.specs.declared.LogName.{LogName}
 use Rattle.log_names.specs.declared.LogName.TheVariants as name
-use Rattle.snapshot_load.specs.Causes.{FaultCause}
 use Rattle.writer_txn.specs.declared.answers.Written.{Written}
 use Rattle.writer_txn.specs.declared.answers.Written.TheVariants as written
 use Rattle.writer_txn.specs.declared.errors.WriteError.{WriteError}
@@ -21,12 +19,12 @@ use Rattle.writer_txn.specs.Moments.{WrittenNow, StopsAt, NamesLatest, HasFailed
 use Rattle.session_lines.specs.declared.request.Request.TheVariants as request
 use Rattle.session_lines.specs.declared.reply.Reply.{Reply}
 use Rattle.session_lines.specs.declared.reply.Reply.TheVariants as reply
-use Rattle.table_session.specs.Moments.{Moment, moment}
+use Rattle.table_session.specs.Moments.{moment}
 use Rattle.table_session.specs.Asking.{asked_by}
-use Rattle.table_session.specs.Naming.{after_base, front_of, newest_of, base_of, versions_of, spots_of, takens_of, tries_of}
+use Rattle.table_session.specs.Naming.{after_base, front_of, newest_of, base_of, versions_of}
 use Rattle.table_session.specs.Telling.{written_as}
-use Rattle.table_session.specs.Replying.{file_of, written_reply}
-use Rattle.table_session.specs.Gaining.{known_length, times, one_for, IsFront, Gains}
+use Rattle.table_session.specs.Replying.{written_reply}
+use Rattle.table_session.specs.Gaining.{known_length, one_for, IsFront, Gains}
 use Rattle.table_session.specs.Running.{IsRight}
 use Rattle.table_session.proofs.Lasting.{length_longer}
 use Rattle.table_session.proofs.Gained.{IsFrontOf, gains_quiet, gains_fault, spot_of-file_of, times_longer, times_gained}

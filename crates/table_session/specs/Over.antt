@@ -1,5 +1,5 @@
 -- What the replies of a session say of a log that begins with what was seen, and of those that were written whole.
-use Rattle.std.specs.Prelude.{◌≤◌, ◌+◌, ◌++◌, ℕ, Bool, List, length, All}
+use Rattle.std.specs.Prelude.{◌≤◌, ◌+◌, Bool, List, length, All}
 use Rattle.table_model.specs.Log.{Commit}
 use Rattle.table_session.specs.Moments.{Moment}
 use Rattle.table_session.specs.Standing.{Stands}

@@ -1,5 +1,5 @@
 -- What a reply says of its own moment: k was known before the request, m after it.
-use Rattle.std.specs.Prelude.{◌≡◌, ◌+◌, ℕ, Bool, length, IfOk, IfErr, IsSomeAnd, Result, Ok, Err, ⊤}
+use Rattle.std.specs.Prelude.{◌≡◌, ◌+◌, Bool, length, IfOk, IfErr, IsSomeAnd, Result, Ok, Err}
 use Rattle.table_model.specs.Knowledge.{Knowledge}
 use Rattle.snapshot_load.specs.declared.answers.Snapshot.{Snapshot}
 use Rattle.snapshot_load.specs.declared.errors.LoadError.{LoadError}

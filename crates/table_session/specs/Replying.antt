@@ -12,7 +12,6 @@ use Rattle.writer_txn.specs.declared.errors.WriteError.{WriteError}
 use Rattle.writer_txn.specs.declared.errors.WriteError.TheVariants as failed
 use Rattle.session_lines.specs.declared.fault.BadLine.{BadLine}
 use Rattle.session_lines.specs.declared.fault.BadLine.TheVariants as bad
-use Rattle.session_lines.specs.declared.fault.LineWhy.{LineWhy}
 use Rattle.session_lines.specs.declared.fault.LineWhy.TheVariants as why
 use Rattle.session_lines.specs.declared.reply.Reply.{Reply}
 use Rattle.session_lines.specs.declared.reply.Reply.TheVariants as reply

@@ -11,7 +11,6 @@ use Rattle.writer_txn.specs.Writing.{WriteStands}
 use Rattle.session_lines.specs.declared.fault.LineWhy.{LineWhy}
 use Rattle.session_lines.specs.declared.request.Request.{Request}
 use Rattle.session_lines.specs.declared.request.Request.TheVariants as request
-use Rattle.session_lines.specs.declared.reply.Reply.{Reply}
 use Rattle.table_session.specs.Moments.{Moment}
 use Rattle.table_session.specs.Asking.{asked_by}
 use Rattle.table_session.specs.Telling.{loaded_as, refused_as, written_as}

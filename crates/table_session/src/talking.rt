@@ -4,7 +4,10 @@ ghost use Rattle.lake_io.specs.declared.answers.End.TheVariants as end;
 ghost use Rattle.table_model.specs.Knowledge.{IsGrown, IsValid};
 ghost use Rattle.table_session.specs.Sessions.{IsCaused, SessionOf};
 
-use lake_io::{Clock, End, Ids, Sink, Source};
+use crate::answering::answer;
+use crate::hearing::{gets_reply, hear};
+use crate::speaking::say;
+use lake_io::{Clock, End, Ids, Lines, Sink, Source};
 use std::alloc::Global;
 use table_model::Steps;
 
@@ -33,5 +36,23 @@ pub fn session<T: Steps, I: Source, O: Sink, C: Clock, U: Ids>(
     ensures after { T.after caller.old caller.new }
 {
     let _ = caller.limits();
+    let mut lines = match Lines::new(alloc) {
+        Ok(lines) => lines,
+        Err(_) => return End::Memory,
+    };
+    'lines: for _ in 0..u64::MAX {
+        let asked = match hear(&mut lines, source) {
+            Ok(asked) => asked,
+            Err(end) => return end,
+        };
+        if !gets_reply(&asked) {
+            continue;
+        }
+        let reply = answer(caller, alloc, clock, ids, &asked);
+        match say(alloc, sink, &reply) {
+            Ok(()) => {}
+            Err(end) => return end,
+        }
+    }
     End::Memory
 }
