@@ -1,0 +1,79 @@
+-- The turns of the loop, from the clauses of the calls in it.
+use Rattle.std.proofs.Common.{◌≡◌, ◌+◌, ◌≤◌, ℕ, ℤ, Bool, true, false, IsTrue, List, ◌++◌, length, refl, sym, ◌∙◌, Result, Ok, Err}
+use Rattle.text_lines.specs.Lines.{Numbered, numbered}
+use Rattle.lake_io.specs.Told.{told}
+use Rattle.lake_io.specs.Reading.{At, Heard}
+use Rattle.lake_io.specs.declared.answers.End.{End}
+use Rattle.lake_io.specs.declared.answers.End.TheVariants as end
+use Rattle.session_lines.specs.declared.reply.Reply.{Reply}
+use Rattle.session_lines.specs.Replies.{reply_text_of}
+use Rattle.table_model.specs.Knowledge.{Knowledge, IsGrown}
+use Rattle.table_model.proofs.Growing.{grows_trans}
+use Rattle.table_session.specs.Moments.{moment}
+use Rattle.table_session.specs.Asking.{gets_reply}
+use Rattle.table_session.specs.Running.{IsRight}
+use Rattle.table_session.specs.Hearing.{IsAskedIn, HearsEnd, Hears}
+use Rattle.table_session.specs.Speaking.{SaidShort}
+use Rattle.table_session.specs.Sessions.{IsCaused, SessionOf}
+use Rattle.table_session.specs.declared.hearing.Asked.{Asked}
+use Rattle.table_session.proofs.Chains.{run_grows}
+use Rattle.table_session.proofs.Turns.{Before, Talking, talking_passed, talking_said}
+use Rattle.table_session.proofs.Ends.{ends_heard, ends_short}
+
+-- the clause of one call that hears the next line
+abbrev pub HearsAny : Bool → List ℕ → List ℕ → At → Result Asked End → List ℕ → List ℕ → At → Type 0
+HearsAny tells taken left at result taken' left' at' =
+    (bytes : List ℕ) (handed : List (List ℕ)) → Heard tells left bytes handed at → Hears tells taken left bytes handed result taken' left' at'
+
+pub known_grows : (tells fixed in_tells out_tells : Bool) (b : Before) (k : Knowledge) (reading : ℤ) (taken left written : List ℕ) (at : At)
+    → Talking tells fixed in_tells out_tells b k reading taken left written at → IsGrown b.known k
+known_grows tells fixed in_tells out_tells b k reading taken left written at t = run_grows tells b.known k t.moments t.run
+
+module _ (tells fixed in_tells out_tells : Bool) (b : Before) (k : Knowledge) (reading : ℤ) (taken left written : List ℕ) (at : At)
+    (t : Talking tells fixed in_tells out_tells b k reading taken left written at) (taken' left' : List ℕ) (at' : At) where
+  pub turn_ended : (ended : End) → HearsAny in_tells taken left at (Err ended) taken' left' at'
+      → SessionOf tells b.known k fixed b.reading in_tells b.taken b.left taken' left' out_tells b.written written ended
+  turn_ended ended hears = ends_heard tells fixed in_tells out_tells b k reading taken left taken' left' written at ended t (hears t.bytes t.handed t.heard)
+
+  pub turn_passed : (a : Asked) (gets : Bool) → HearsAny in_tells taken left at (Ok a) taken' left' at' → ((line : Numbered) → IsAskedIn line a → gets ≡ gets_reply line) → gets ≡ false
+      → Talking tells fixed in_tells out_tells b k reading taken' left' written at'
+  turn_passed a gets hears is none =
+      let h = hears t.bytes t.handed t.heard in
+      talking_passed tells fixed in_tells out_tells b k reading taken left taken' left' written at at' a t h (sym (is (numbered (length t.handed + 1) h.text) h.line) ∙ none)
+
+  module _ (a : Asked) (gets : Bool) (hears : HearsAny in_tells taken left at (Ok a) taken' left' at') (is : (line : Numbered) → IsAskedIn line a → gets ≡ gets_reply line) (some : gets ≡ true)
+      (reply : Reply) (after : Knowledge) (reading' : ℤ) (last : ℕ) (right : (line : Numbered) → IsAskedIn line a → IsRight tells k (moment line reply after reading' last))
+      (steady : IsTrue fixed → reading' ≡ reading) where
+    pub turn_said : (written' : List ℕ) → written' ≡ written ++ told out_tells (reply_text_of reply) → Talking tells fixed in_tells out_tells b after reading' taken' left' written' at'
+    turn_said written' put =
+        let h = hears t.bytes t.handed t.heard in
+        let line = numbered (length t.handed + 1) h.text in
+        talking_said tells fixed in_tells out_tells b k reading taken left taken' left' written at at' a t h (sym (is line h.line) ∙ some)
+        (moment line reply after reading' last) refl (right line h.line) steady (reply_text_of reply) written' refl put
+
+    pub turn_short : (written' : List ℕ) (ended : End) → SaidShort out_tells written (reply_text_of reply) ended written'
+        → SessionOf tells b.known after fixed b.reading in_tells b.taken b.left taken' left' out_tells b.written written' ended
+    turn_short written' ended put =
+        let h = hears t.bytes t.handed t.heard in
+        let line = numbered (length t.handed + 1) h.text in
+        ends_short tells fixed in_tells out_tells b k reading taken left taken' left' written at at' a t h (sym (is line h.line) ∙ some)
+        (moment line reply after reading' last) refl (right line h.line) steady (reply_text_of reply) written' ended refl put
+
+    pub grows_now : IsGrown k after
+    grows_now = let h = hears t.bytes t.handed t.heard in (right (numbered (length t.handed + 1) h.text) h.line).grows
+
+    pub grows_after : IsGrown b.known after
+    grows_after = grows_trans b.known k after (known_grows tells fixed in_tells out_tells b k reading taken left written at t) grows_now
+
+-- a fault of the sink does not come of hearing
+not_of_sink : (tells : Bool) (taken left bytes taken' left' : List ℕ) (handed : List (List ℕ)) (ended : End) → HearsEnd tells taken left bytes handed ended taken' left' → ended ≡ end.WriteFault → ⊥
+not_of_sink tells taken left bytes taken' left' handed end.Done h e = cc
+not_of_sink tells taken left bytes taken' left' handed end.ReadFault h e = cc
+not_of_sink tells taken left bytes taken' left' handed end.TooMuch h e = cc
+not_of_sink tells taken left bytes taken' left' handed end.WriteFault h e = h.heard
+not_of_sink tells taken left bytes taken' left' handed end.Memory h e = cc
+
+pub no_fault_of_sink : (tells : Bool) (taken left bytes taken' left' : List ℕ) (handed : List (List ℕ)) (ended : End) (at at' : At) (before now : ℕ)
+    → Heard tells left bytes handed at → HearsAny tells taken left at (Err ended) taken' left' at' → before ≤ now → IsCaused (ended ≡ end.WriteFault) before now
+no_fault_of_sink tells taken left bytes taken' left' handed ended at at' before now heard hears later =
+    record { later = later; rose = λ e. absurd (not_of_sink tells taken left bytes taken' left' handed ended (hears bytes handed heard) e) }
