@@ -1,1 +1,2 @@
 pub mod Commits
+mod Written

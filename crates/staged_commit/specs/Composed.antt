@@ -1,16 +1,23 @@
--- The actions that a create composes, at a time and under the id of its staged commit (Delta protocol, "Commit Provenance
--- Information", "Protocol Evolution" and "Change Metadata"; which features a table has is this project's profile).
-use Rattle.std.specs.Prelude.{◌≡◌, ℕ, ℤ, pos, List, [], ◌∷◌, codes, filter, Option, Some, None}
+-- The actions that a create and an append compose, at a time and under the id of the staged commit (Delta protocol, "Commit
+-- Provenance Information", "Protocol Evolution", "Change Metadata", "Transaction Identifiers" and "Add File and Remove File"; which
+-- features a table has is this project's profile).
+use Rattle.std.specs.Prelude.{◌≡◌, ℕ, ℤ, pos, true, List, [], ◌∷◌, codes, filter, map, Option, Some, None}
+use Rattle.std.specs.List.{list_all}
 use Rattle.action_types.specs.declared.actions.Action.{Action}
 use Rattle.action_types.specs.declared.actions.Action.TheVariants as action
 use Rattle.action_types.specs.declared.actions.Info.{Info}
 use Rattle.action_types.specs.declared.actions.Protocol.{Protocol}
 use Rattle.action_types.specs.declared.actions.Format.{Format}
 use Rattle.action_types.specs.declared.actions.Meta.{Meta}
+use Rattle.action_types.specs.declared.actions.Txn.{Txn}
+use Rattle.action_fields.specs.Valid.{has_valid_fields}
+use Rattle.conflict_rules.specs.declared.intent.Intent.{Intent}
+use Rattle.conflict_rules.specs.declared.intent.Reads.TheVariants as reads
 use Rattle.log_names.specs.Texts.{uuid_text}
 use Rattle.table_rules.specs.Texts.{names_have}
 use Rattle.table_rules.specs.Features.{shared_features}
 use Rattle.table_rules.specs.Broken.{timestamps_property}
+use Rattle.staged_commit.specs.Adds.{adds_in_order, have_own_paths}
 use Rattle.staged_commit.specs.Names.{with_name, in_order, with_pair}
 use Rattle.staged_commit.specs.declared.create.Create.{Create}
 
@@ -60,3 +67,21 @@ composed_create create id time =
 pub record IsCreate (create : Create) : Type 0 where
   pub configuration : create.configuration ≡ []
   pub features : create.features ≡ None
+
+-- the txn of a write, which does not say when it was made
+abbrev pub txn_for : Intent → Txn
+txn_for intent = record { app = intent.app; updated = None; number = intent.number }
+
+-- what an append composes is the same after every log
+unfoldable pub composed_append : Intent → ℕ → ℤ → List Action
+composed_append intent id time =
+    action.Info (info_for id time) ∷ action.Txn (txn_for intent) ∷ map action.Add (adds_in_order intent.adds)
+
+-- A write that has read nothing, removes nothing and changes no metadata, of files whose fields a commit may have and whose
+-- paths are their own. Other writes are not composed yet.
+pub record IsAppend (intent : Intent) : Type 0 where
+  pub reads : intent.reads ≡ reads.None
+  pub removes : intent.removes ≡ []
+  pub change : intent.change ≡ None
+  pub fields : list_all (λ a. has_valid_fields (action.Add a)) intent.adds ≡ true
+  pub paths : have_own_paths intent.adds ≡ true

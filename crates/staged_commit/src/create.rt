@@ -1,19 +1,16 @@
 //! What a create composes.
 ghost use Rattle.std.specs.Prelude.{◌≡◌, pos, ◌≤ℤ◌, [], ◌∷◌, ◌++◌, IfErr, IfOk, None, OnOk, Some, codes, filter};
-ghost use Rattle.action_json.specs.Commit.{IsCommit};
-ghost use Rattle.log_names.specs.Texts.{uuid_text};
-ghost use Rattle.table_rules.specs.Broken.{first_broken, timestamps_property};
+ghost use Rattle.table_rules.specs.Broken.{timestamps_property};
 ghost use Rattle.table_rules.specs.Features.{shared_features};
 ghost use Rattle.table_rules.specs.Texts.{names_have};
 ghost use Rattle.staged_commit.specs.Answers.{IsComposed, IsRefused};
-ghost use Rattle.staged_commit.specs.Composed.{IsCreate, composed_create, features_for, info_for, meta_for, parquet_format, protocol_for};
+ghost use Rattle.staged_commit.specs.Composed.{IsCreate, composed_create, features_for, meta_for, parquet_format, protocol_for};
 
+use crate::commit::{Composed, info_at, judged, written};
 use crate::fault::ComposeError;
-use action_json::write_commit;
 use action_types::{Action, Format, Info, Meta, Name, Names, Pairs, Protocol};
 use std::alloc::{AllocError, Global};
-use table_rules::{Broken, check_create};
-use uuid::Uuid;
+use table_rules::check_create;
 
 /// A table that a caller wants made.
 #[derive(PartialEq, Eq, Debug, Drop)]
@@ -30,16 +27,6 @@ pub struct Create {
     pub configuration: Pairs,
     /// The table features; where there are none, those of checkpoints.
     pub features: Option<Names>,
-}
-
-/// A commit that was composed.
-#[derive(Drop)]
-pub struct Composed {
-    /// The canonical text of the actions.
-    pub bytes: Vec<u8>,
-    pub actions: Vec<Action>,
-    /// The in-commit timestamp, in milliseconds since 1970 UTC.
-    pub time: i64,
 }
 
 /// The commit that makes a table, at the time `now` in milliseconds since 1970 UTC, from 0, and under the id of its staged file.
@@ -60,49 +47,8 @@ pub fn compose_create(
     ensures err { IfErr result (λ e. IsRefused [] (composed_create create.now id now) limit e) }
 {
     let actions = actions_of(alloc, create, id, now)?;
-    checked(alloc, actions, now, limit)
-}
-
-/// The commit of these actions, if it may be the first of a table and its text is within the limit.
-fn checked(
-    alloc: Global,
-    actions: Vec<Action>,
-    time: i64,
-    limit: u64,
-) -> Result<Composed, ComposeError>
-    requires { IsCommit actions.items }
-    ensures ok { IfOk result (λ c. IsComposed [] actions.items time limit c) }
-    ensures err { IfErr result (λ e. IsRefused [] actions.items limit e) }
-{
-    match check_create(alloc, &actions) {
-        Ok(()) => written(alloc, actions, time, limit),
-        Err(Broken::Memory) => Err(ComposeError::Memory),
-        Err(broken) => Err(ComposeError::Broken(broken)),
-    }
-}
-
-/// The same for actions that break no rule.
-fn written(
-    alloc: Global,
-    actions: Vec<Action>,
-    time: i64,
-    limit: u64,
-) -> Result<Composed, ComposeError>
-    requires commit { IsCommit actions.items }
-    requires rules { first_broken [] actions.items ≡ None }
-    ensures ok { IfOk result (λ c. IsComposed [] actions.items time limit c) }
-    ensures err { IfErr result (λ e. IsRefused [] actions.items limit e) }
-{
-    let bytes = write_commit(alloc, &actions)?;
-    let length = bytes.len() as u64;
-    if length > limit {
-        return Err(ComposeError::TooLarge { bytes: length });
-    }
-    Ok(Composed {
-        bytes,
-        actions,
-        time,
-    })
+    judged(check_create(alloc, &actions))?;
+    written(alloc, actions, now, limit)
 }
 
 /// The actions of the commit.
@@ -119,22 +65,6 @@ fn actions_of(alloc: Global, create: &Create, id: u128, now: i64) -> Result<Vec<
     actions.push(Action::Protocol(protocol))?;
     actions.push(Action::Meta(meta))?;
     Ok(actions)
-}
-
-/// The commitInfo of a commit that is staged under an id.
-#[tactic(auto, unfolding(log_names::specs::Texts::uuid_text))]
-fn info_at(alloc: Global, id: u128, time: i64) -> Result<Info, AllocError>
-    ensures { IfOk result (λ i. i ≡ info_for id time) }
-{
-    let mut buffer = Uuid::encode_buffer();
-    let txn_id = Name::from_str(
-        alloc,
-        Uuid::from_u128(id).hyphenated().encode_lower(&mut buffer),
-    )?;
-    Ok(Info {
-        time,
-        txn_id: Some(txn_id),
-    })
 }
 
 /// The protocol of a create that names no features.

@@ -3,7 +3,7 @@ use Rattle.std.proofs.lemmas.Int.{to_z-of_z}
 use Rattle.uuid.specs.Text.{hyphenated_text, lower}
 use Rattle.action_types.specs.declared.actions.Info.{Info}
 use Rattle.log_names.specs.Texts.{uuid_text}
-use Rattle.staged_commit.proofs.create.info_at.Goals as goal
+use Rattle.staged_commit.proofs.commit.info_at.Goals as goal
 
 info : ℤ → List ℕ → Info
 info t s = record { time = t; txn_id = Some s }

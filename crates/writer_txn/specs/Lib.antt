@@ -1,0 +1,5 @@
+pub mod Converting
+pub mod Fronts
+pub mod Creating
+pub mod Moments
+pub mod Writing
