@@ -9,7 +9,8 @@ use Rattle.serde_json.proofs.Views.{Entry}
 use Rattle.action_types.specs.declared.actions.Add.{Add}
 use Rattle.action_fields.specs.Bodies.{body_of}
 use Rattle.action_fields.specs.declared.kind.Kind.TheVariants as kind
-use Rattle.session_lines.specs.Members.{adds_in, are_new, as_add, is_other, other_member}
+use Rattle.staged_commit.specs.Adds.{are_new}
+use Rattle.session_lines.specs.Members.{adds_in, as_add, is_other, other_member}
 use Rattle.session_lines.specs.declared.op.Op.{Op}
 
 -- ---- members

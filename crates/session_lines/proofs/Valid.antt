@@ -23,7 +23,8 @@ use Rattle.action_fields.proofs.Accepted.{valid-body_of}
 use Rattle.action_fields.proofs.Reading.{ordered-read}
 use Rattle.session_lines.specs.declared.fault.BadLine.{BadLine}
 use Rattle.session_lines.specs.Faults.{told}
-use Rattle.session_lines.specs.Members.{adds_in, as_add, files, files_or_none, have_own_paths, if_own_paths, other_member, schema}
+use Rattle.session_lines.specs.Members.{adds_in, as_add, files, files_or_none, if_own_paths, other_member, schema}
+use Rattle.staged_commit.specs.Adds.{have_own_paths}
 use Rattle.session_lines.specs.Requests.{IsRequest, create_of, members_say, op_in, op_request, or_field, or_why, request_of, text_request, unless_other, value_request, write_of}
 use Rattle.session_lines.specs.declared.op.Op.{Op}
 use Rattle.session_lines.specs.declared.op.Op.TheVariants as op
@@ -157,7 +158,7 @@ write_of-good d h =
     bind-ok Good IsRequest _
     (λ adds k. bind-ok (λ a. Unit {0}) IsRequest _
     (λ app u. bind-ok (λ a. Unit {0}) IsRequest _
-    (λ n v. record { adds = k.fields; paths = k.paths })
+    (λ n v. record { reads = refl; removes = refl; change = refl; fields = k.fields; paths = k.paths })
     (required from_zero (codes "number") d) (any-ok _))
     (required path (codes "app") d) (any-ok _))
     (files_or_none (codes "adds") d) (files_or_none-good (codes "adds") d h)

@@ -12,6 +12,7 @@ use Rattle.action_fields.specs.declared.kind.Kind.TheVariants as kind
 use Rattle.action_fields.specs.Bodies.{body_of, optional}
 use Rattle.action_fields.specs.Gives.{◌>>=◌}
 use Rattle.action_fields.specs.Types.{text}
+use Rattle.staged_commit.specs.Adds.{have_own_paths}
 use Rattle.table_rules.specs.Texts.{contains_text}
 use Rattle.session_lines.specs.declared.op.Op.{Op}
 use Rattle.session_lines.specs.declared.op.Op.TheVariants as op
@@ -59,15 +60,6 @@ as_add (Err f) = None
 abbrev pub adds_in : Items → Option (List Add)
 adds_in no_items = Some []
 adds_in (item d ds) = option_and_then (λ a. option_map (λ rest. a ∷ rest) (adds_in ds)) (as_add (body_of kind.Add d))
-
--- no path is that of an add before it
-abbrev pub are_new : List Add → List Add → Bool
-are_new before [] = true
-are_new before (a ∷ more) = not (list_any (λ b. bytes_eq b.path a.path) before) && are_new (before ++ a ∷ []) more
-
--- no path stands twice
-unfoldable pub have_own_paths : List Add → Bool
-have_own_paths adds = are_new [] adds
 
 abbrev pub if_own_paths : List Add → Option (List Add)
 if_own_paths adds = if have_own_paths adds then Some adds else None

@@ -1,20 +1,16 @@
 -- What a line asks for, or the first reason why it is no request.
-use Rattle.std.specs.Prelude.{◌≡◌, ℕ, List, [], codes, true, Option, Some, None, option_and_then, Result, Ok, Err, if◌then◌else◌, ⊤}
-use Rattle.std.specs.List.{list_all}
+use Rattle.std.specs.Prelude.{ℕ, List, [], codes, Option, Some, None, option_and_then, Result, Ok, Err, if◌then◌else◌, ⊤}
 use Rattle.std.specs.Str.{is_utf8}
 use Rattle.serde_json.specs.Data.{Data, Members}
 use Rattle.serde_json.specs.Find.{as_object, as_str, get}
 use Rattle.serde_json.specs.Read.{read}
-use Rattle.action_types.specs.declared.actions.Action.TheVariants as action
 use Rattle.action_fields.specs.Bodies.{required}
 use Rattle.action_fields.specs.Gives.{◌>>=◌}
 use Rattle.action_fields.specs.Types.{path, from_zero}
-use Rattle.action_fields.specs.Valid.{has_valid_fields}
-use Rattle.conflict_rules.specs.declared.intent.Intent.{Intent}
 use Rattle.conflict_rules.specs.declared.intent.Level.TheVariants as level
 use Rattle.conflict_rules.specs.declared.intent.Reads.TheVariants as reads
-use Rattle.staged_commit.specs.Composed.{IsCreate}
-use Rattle.session_lines.specs.Members.{op_named, other_member, schema, files_or_none, have_own_paths}
+use Rattle.staged_commit.specs.Composed.{IsAppend, IsCreate}
+use Rattle.session_lines.specs.Members.{op_named, other_member, schema, files_or_none}
 use Rattle.session_lines.specs.declared.op.Op.{Op}
 use Rattle.session_lines.specs.declared.op.Op.TheVariants as op
 use Rattle.session_lines.specs.declared.fault.LineWhy.{LineWhy}
@@ -77,14 +73,9 @@ text_request line = do
 unfoldable pub request_of : List ℕ → Result Request LineWhy
 request_of line = if is_utf8 line then text_request line else Err why.Utf8
 
--- ---- what is known of a request that was read
-
--- the adds have fields that a commit may have, and paths of their own
-pub record IsIntent (intent : Intent) : Type 0 where
-  pub adds : list_all (λ a. has_valid_fields (action.Add a)) intent.adds ≡ true
-  pub paths : have_own_paths intent.adds ≡ true
+-- ---- what is known of a request that was read: it can be composed
 
 abbrev pub IsRequest : Request → Type 0
 IsRequest (request.Create create) = IsCreate create
-IsRequest (request.Write intent) = IsIntent intent
+IsRequest (request.Write intent) = IsAppend intent
 IsRequest request.Load = ⊤

@@ -3,7 +3,8 @@ ghost use Rattle.std.specs.Prelude.{◌≡◌, IfOk};
 ghost use Rattle.serde_json.specs.View.{items_view, view};
 ghost use Rattle.action_fields.specs.Bodies.{body_of};
 ghost use Rattle.action_fields.specs.declared.kind.Kind.TheVariants as kind;
-ghost use Rattle.session_lines.specs.Members.{adds_in, as_add, files, have_own_paths};
+ghost use Rattle.staged_commit.specs.Adds.{have_own_paths};
+ghost use Rattle.session_lines.specs.Members.{adds_in, as_add, files};
 
 use action_fields::{BadBody, Kind, read_body};
 use action_types::{Action, Add};
@@ -54,7 +55,7 @@ fn add_of(alloc: Global, value: &Value) -> Result<Option<Add>, AllocError>
 }
 
 /// Whether no path stands twice; refused for want of memory alone.
-#[tactic(auto, unfolding(crate::specs::Members::have_own_paths))]
+#[tactic(auto, unfolding(staged_commit::specs::Adds::have_own_paths))]
 fn have_own_paths(alloc: Global, adds: &[Add]) -> Result<bool, AllocError>
     ensures { IfOk result (λ b. b ≡ have_own_paths adds.now) }
 {

@@ -2,7 +2,7 @@ use Rattle.std.proofs.Common.{◌≡◌, ◌||◌, true, false, bytes_eq, string
 use Rattle.std.specs.List.{list_any}
 use Rattle.std.specs.BTreeSet.{contains_text}
 use Rattle.std.proofs.lemmas.Map.Text.{btree_set_updates_text}
-use Rattle.session_lines.specs.Members.{have_own_paths}
+use Rattle.staged_commit.specs.Adds.{have_own_paths}
 use Rattle.session_lines.proofs.Steps.{cond-or, has_path, known-more, new-again, new-more}
 use Rattle.session_lines.proofs.files.have_own_paths.Goals as goal
 

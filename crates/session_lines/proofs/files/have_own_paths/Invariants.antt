@@ -1,7 +1,7 @@
 use Rattle.std.proofs.Common.{◌≡◌, ℕ, List, [], take, drop}
 use Rattle.std.specs.List.{list_any}
 use Rattle.std.specs.BTreeSet.{contains_text}
-use Rattle.session_lines.specs.Members.{are_new}
+use Rattle.staged_commit.specs.Adds.{are_new}
 use Rattle.session_lines.proofs.Steps.{has_path}
 use Rattle.session_lines.proofs.files.have_own_paths.Given as goal
 

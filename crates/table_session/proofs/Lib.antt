@@ -1,0 +1,9 @@
+pub mod Lasting
+pub mod Chains
+pub mod NextLine
+pub mod Turns
+pub mod Ends
+pub mod Gained
+pub mod Rights
+pub mod Wholes
+pub mod Writings

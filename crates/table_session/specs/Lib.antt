@@ -1,0 +1,14 @@
+pub mod Moments
+pub mod Naming
+pub mod Gaining
+pub mod Asking
+pub mod Telling
+pub mod Standing
+pub mod Owning
+pub mod Running
+pub mod Told
+pub mod Sessions
+pub mod Over
+pub mod Hearing
+pub mod Speaking
+pub mod Replying

@@ -1,0 +1,25 @@
+//! What the replies of a session say together.
+ghost use Rattle.std.specs.Prelude.{Bool, ℕ, List};
+ghost use Rattle.lake_io.specs.declared.answers.End.{End};
+ghost use Rattle.table_model.specs.Log.{Commit};
+ghost use Rattle.table_model.specs.Knowledge.{Knowledge, StartsWith};
+ghost use Rattle.table_session.specs.Moments.{Moment};
+ghost use Rattle.table_session.specs.Running.{Run};
+ghost use Rattle.table_session.specs.Told.{Told};
+ghost use Rattle.table_session.specs.Over.{IsWhole, ToldOver};
+ghost use Rattle.table_session.specs.Sessions.{Session};
+
+/// Replies that are each right at their moment are right together.
+pub fn replies_are_right_together()
+    ensures { (tells : Bool) (k m : Knowledge) (moments : List Moment) → Run tells k moments m → Told tells k moments m }
+{}
+
+/// They are right of each log that begins with what was seen.
+pub fn replies_are_right_of_the_log()
+    ensures { (tells : Bool) (k m : Knowledge) (moments : List Moment) (log : List Commit) → StartsWith log m.seen → Told tells k moments m → ToldOver tells moments log }
+{}
+
+/// At most one reply of a session was not written whole, and the version that it names is above all that was written.
+pub fn one_reply_at_most_is_not_written()
+    ensures { (tells : Bool) (read wrote : List ℕ) (k m : Knowledge) (ended : End) → (s : Session tells read wrote k m ended) → IsWhole s.moments s.said s.unsaid }
+{}

@@ -1,0 +1,14 @@
+//! One session over a table: requests line by line, and a reply to each.
+#![tactic(auto)]
+
+mod answering;
+mod hearing;
+mod laws;
+mod replying;
+mod speaking;
+mod talking;
+
+pub use laws::{
+    one_reply_at_most_is_not_written, replies_are_right_of_the_log, replies_are_right_together,
+};
+pub use talking::session;
