@@ -85,17 +85,16 @@ counts_commits wrote moments said unsaid e st log is whole w s all =
 terms_same : (w x : WorldData) → IsLater w x → terms_of x ≡ terms_of w
 terms_same w x h = ap (λ (limits : Limits). let t : Terms = record { limits = limits; tells = x.tells } in t) h.limits ∙ ap (λ (tells : Bool). let t : Terms = record { limits = w.limits; tells = tells } in t) h.tells
 
--- so many faults of the session are faults of the store
-rose_in_session : (w0 w1 w2 : WorldData) (t : Terms) (k1 k2 : Knowledge) (n : ℕ) → w0.tally ≡ 0
-    → IsAfter (record { world = w0; known = at_start t }) (record { world = w1; known = k1 })
-    → IsAfter (record { world = w1; known = k1 }) (record { world = w2; known = k2 }) → 0 < n → 0 + n ≤ k1.faults → 0 < w2.tally
-rose_in_session w0 w1 w2 t k1 k2 n none first second some faults =
+-- a fault of the session is one of the store
+rose_in_session : (w0 w1 : WorldData) (t : Terms) (k1 : Knowledge) (n : ℕ) → w0.tally ≡ 0
+    → IsAfter (record { world = w0; known = at_start t }) (record { world = w1; known = k1 }) → 0 < n → 0 + n ≤ k1.faults → 0 < w1.tally
+rose_in_session w0 w1 t k1 n none first some faults =
     let rose : 0 < k1.faults = omega (arith, some, faults) in
-    omega (arith, first.cause rose, second.later.tally, none)
+    omega (arith, first.cause rose, none)
 
 drain_failed : (tells : Bool) (w1 w2 : WorldData) (k1 k2 : Knowledge) → IsAfter (record { world = w1; known = k1 }) (record { world = w2; known = k2 })
-    → HasFailed tells k1 k2 → (0 < w2.tally) ⊎ (¬ (IsTrue tells))
-drain_failed tells w1 w2 k1 k2 after (inl rose) = inl (omega (arith, after.cause rose))
+    → HasFailed tells k1 k2 → (w1.tally < w2.tally) ⊎ (¬ (IsTrue tells))
+drain_failed tells w1 w2 k1 k2 after (inl rose) = inl (after.cause rose)
 drain_failed tells w1 w2 k1 k2 after (inr untold) = inr untold
 
 held : (limits : Limits) (files : Files) (tells : Bool) (w0 w1 w2 : WorldData) (k1 k2 : Knowledge) (fixed : Bool) (reading : ℤ)
@@ -106,7 +105,7 @@ held : (limits : Limits) (files : Files) (tells : Bool) (w0 w1 w2 : WorldData) (
     → IsAfter (record { world = w1; known = k1 }) (record { world = w2; known = k2 })
     → KeepsLog w1 w2
     → IsStatusOf e st → (st ≡ status.StoreFault → HasFailed tells k1 k2) → (st ≡ status.Done → IsSettled w2) → IsConsistent w2
-    → HasRun tells files fixed reading in_tells taken left taken' left' out_tells written written' st w2
+    → HasRun limits tells files fixed reading in_tells taken left taken' left' out_tells written written' st w2
 held limits files tells w0 w1 w2 k1 k2 fixed reading in_tells taken left taken' left' out_tells written written' e st fresh session first second keeps ends failed settled consistent =
     let start : HasAll (record { world = w0; known = at_start (terms_of w0) }) =
     subst (λ (w : WorldData). HasAll (record { world = w; known = at_start (terms_of w) })) (sym fresh.is) (new_has_all limits files tells) in
@@ -120,6 +119,7 @@ held limits files tells w0 w1 w2 k1 k2 fixed reading in_tells taken left taken' 
     sym (ap length there.session.told.mine) ∙ all.mine ∙ sym (length-log_of w1) ∙ sym (ap length log) in
     record {
       empty = fresh.empty;
+      limits_are = second.later.limits ∙ first.later.limits ∙ ap (λ (w : WorldData). w.limits) fresh.is;
       consistent = consistent;
       ended = e;
       known = k1;
@@ -129,7 +129,9 @@ held limits files tells w0 w1 w2 k1 k2 fixed reading in_tells taken left taken' 
       told = told_over tells (at_start (terms_of w2)) k1 there.session.moments (log_of w2) (subst (λ (log : List Commit). StartsWith log k1.seen) (all.seen ∙ sym log) (starts_refl k1.seen)) there.session.told;
       commits = counts_commits there.wrote there.session.moments there.session.said there.session.unsaid e st (length (log_of w2)) there.session.all
           (session_whole tells there.read there.wrote (at_start (terms_of w2)) k1 e there.session) there.session.wrote_is ends count;
-      faults = λ t some. rose_in_session w0 w1 w2 (terms_of w0) k1 k2 (total (λ r. length (spots_of r)) there.session.moments) none first second some (there.session.told.faults t);
+      faults = λ t some. rose_in_session w0 w1 (terms_of w0) k1 (total (λ r. length (spots_of r)) there.session.moments) none first some (there.session.told.faults t);
+      rise = w1.tally;
+      later = second.later.tally;
       drain = λ is. drain_failed tells w1 w2 k1 k2 second (failed is);
       settled = settled;
     }
@@ -142,11 +144,11 @@ pub held_by : (limits : Limits) (files : Files) (tells : Bool) (w0 w2 : WorldDat
     → SessionOf tells a0.known a1.known fixed reading in_tells taken left taken' left' out_tells written written' e
     → IsAfter a0 a1 → IsAfter a1 a2 → KeepsLog a1.world a2.world
     → IsStatusOf e st → (st ≡ status.StoreFault → HasFailed tells a1.known a2.known) → (st ≡ status.Done → IsSettled a2.world) → IsConsistent w2
-    → HasRun tells files fixed reading in_tells taken left taken' left' out_tells written written' st w2
+    → HasRun limits tells files fixed reading in_tells taken left taken' left' out_tells written written' st w2
 held_by limits files tells w0 w2 a0 a1 a2 fixed reading in_tells taken left taken' left' out_tells written written' e st world_is known_is last_is fresh session first second keeps ends failed settled consistent =
     let start : a0 ≡ record { world = w0; known = at_start (terms_of w0) } =
     ap (λ (w : WorldData). let a : Alone = record { world = w; known = a0.known } in a) world_is ∙ ap (λ (k : Knowledge). let a : Alone = record { world = w0; known = k } in a) known_is in
-    subst (λ (w : WorldData). HasRun tells files fixed reading in_tells taken left taken' left' out_tells written written' st w) (sym last_is)
+    subst (λ (w : WorldData). HasRun limits tells files fixed reading in_tells taken left taken' left' out_tells written written' st w) (sym last_is)
     (held limits files tells w0 a1.world a2.world a1.known a2.known fixed reading in_tells taken left taken' left' out_tells written written' e st fresh
     (subst (λ (k : Knowledge). SessionOf tells k a1.known fixed reading in_tells taken left taken' left' out_tells written written' e) known_is session)
     (subst (λ (a : Alone). IsAfter a a1) start first) second keeps ends failed settled (subst IsConsistent last_is consistent))

@@ -1,6 +1,7 @@
 -- What a run leaves: of one for which no session was begun, and of one with a session.
 use Rattle.std.specs.Prelude.{◌≡◌, ◌<◌, ◌≤◌, ◌+◌, ◌⊎◌, ℕ, ℤ, Bool, List, length, IsTrue, IsSome, String, None}
 use Rattle.std.specs.declared.alloc.Global.{Global}
+use Rattle.commit_catalog.specs.declared.Limits.{Limits}
 use Rattle.lake_io.specs.declared.answers.End.{End}
 use Rattle.object_store.specs.Files.{Files, names_of}
 use Rattle.table_model.specs.World.{WorldData, log_of}
@@ -36,10 +37,11 @@ pub record CountsCommits (said unsaid log : ℕ) (st : Status) : Type 0 where
   pub cut : 0 < unsaid → IsCutShort st
 
 -- a session over a new table, and the world after the drain
-pub record HasRun (tells : Bool) (files : Files) (fixed : Bool) (reading : ℤ) (in_tells : Bool) (taken left taken' left' : List ℕ)
+pub record HasRun (limits : Limits) (tells : Bool) (files : Files) (fixed : Bool) (reading : ℤ) (in_tells : Bool) (taken left taken' left' : List ℕ)
     (out_tells : Bool) (written written' : List ℕ) (st : Status) (world : WorldData) : Type 0 where
   -- the folder had no name of the log
   pub empty : IsTrue tells → first_log_name (names_of files) ≡ None
+  pub limits_are : world.limits ≡ limits
   pub consistent : IsConsistent world
   -- the session, of one who knew nothing before it and had seen all commits after it
   pub ended : End
@@ -48,11 +50,13 @@ pub record HasRun (tells : Bool) (files : Files) (fixed : Bool) (reading : ℤ) 
   pub session : SessionOf tells (at_start (terms_of world)) known fixed reading in_tells taken left taken' left' out_tells written written' ended
   pub status_is : IsStatusOf ended st
   -- each reply is right of the commits of this world, fronts never fall, and none is above their number
-  pub told : ToldOver tells (session.session.moments) (log_of world)
+  pub told : ToldOver tells session.session.moments (log_of world)
   -- each commit of the table is that of one Committed reply
   pub commits : CountsCommits (length (versions_in session.session.said)) (length (versions_in session.session.unsaid)) (length (log_of world)) st
-  -- a Fault reply comes only where the store's count of faults rose
-  pub faults : IsTrue tells → 0 < total (λ r. length (spots_of r)) (session.session.moments) → 0 < world.tally
-  -- the store failed in the drain
-  pub drain : st ≡ status.StoreFault → (0 < world.tally) ⊎ (¬ (IsTrue tells))
+  -- by so much had the store's count of faults risen when the session ended; a Fault reply comes only where it rose
+  pub rise : ℕ
+  pub faults : IsTrue tells → 0 < total (λ r. length (spots_of r)) session.session.moments → 0 < rise
+  -- in the drain it rose further, where that failed
+  pub later : rise ≤ world.tally
+  pub drain : st ≡ status.StoreFault → (rise < world.tally) ⊎ (¬ (IsTrue tells))
   pub settled : st ≡ status.Done → IsSettled world

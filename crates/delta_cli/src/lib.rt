@@ -9,5 +9,5 @@ mod tests;
 mod words;
 
 pub use endings::{Ended, Status};
-pub use running::run;
+pub use running::{LIMITS, run};
 pub use words::{Command, USAGE, read_words};

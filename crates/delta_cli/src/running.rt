@@ -15,8 +15,8 @@ use std::alloc::Global;
 use table_session::session;
 use table_world::{Limits, Solo, Start, World};
 
-/// The limits of a run.
-const LIMITS: Limits = Limits {
+/// The limits of a run's table: 1,000,000 versions, as many unpublished, 64 attempts of a write, 16,777,216 bytes of a commit.
+pub const LIMITS: Limits = Limits {
     versions: 1_000_000,
     unpublished: 1_000_000,
     attempts: 64,
@@ -41,7 +41,7 @@ pub fn run<S: Store, I: Source, O: Sink, C: Clock, U: Ids>(
     ids: &mut U,
 ) -> Ended<S>
     ensures usage { status_in result ≡ status.Usage ↔ (¬ (IsRun words.now)) }
-    ensures ended { MatchEnded result (λ st back. NotRunBy words.now S.tells (S.files store) (S.faults store) (S.faults back) st) (λ st world. HasRun S.tells (S.files store) C.fixed (C.reading clock.old) I.tells (I.taken source.old) (I.left source.old) (I.taken source.new) (I.left source.new) O.tells (O.written sink.old) (O.written sink.new) st world) }
+    ensures ended { MatchEnded result (λ st back. NotRunBy words.now S.tells (S.files store) (S.faults store) (S.faults back) st) (λ st world. HasRun LIMITS S.tells (S.files store) C.fixed (C.reading clock.old) I.tells (I.taken source.old) (I.left source.old) (I.taken source.new) (I.left source.new) O.tells (O.written sink.old) (O.written sink.new) st world) }
     ensures untouched { MatchEnded result (λ st back. (S.files back ≡ S.files store) × (source.new ≡ source.old) × (sink.new ≡ sink.old)) (λ st world. ⊤) }
     ensures read { IsCaused (status_in result ≡ status.ReadFault) (I.faults source.old) (I.faults source.new) }
     ensures write { IsCaused (status_in result ≡ status.WriteFault) (O.faults sink.old) (O.faults sink.new) }
@@ -79,7 +79,7 @@ fn hold<S: Store, I: Source, O: Sink, C: Clock, U: Ids>(
     ids: &mut U,
 ) -> Ended<S>
     requires { IsFresh LIMITS world.files S.tells world }
-    ensures run { MatchEnded result (λ st back. ⊥) (λ st after. HasRun S.tells world.files C.fixed (C.reading clock.old) I.tells (I.taken source.old) (I.left source.old) (I.taken source.new) (I.left source.new) O.tells (O.written sink.old) (O.written sink.new) st after) }
+    ensures run { MatchEnded result (λ st back. ⊥) (λ st after. HasRun LIMITS S.tells world.files C.fixed (C.reading clock.old) I.tells (I.taken source.old) (I.left source.old) (I.taken source.new) (I.left source.new) O.tells (O.written sink.old) (O.written sink.new) st after) }
     ensures usage { ¬ (status_in result ≡ status.Usage) }
     ensures read { IsCaused (status_in result ≡ status.ReadFault) (I.faults source.old) (I.faults source.new) }
     ensures write { IsCaused (status_in result ≡ status.WriteFault) (O.faults sink.old) (O.faults sink.new) }
