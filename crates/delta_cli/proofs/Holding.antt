@@ -1,0 +1,154 @@
+-- From a session over a new table, and the drain after it, to what a run leaves.
+use Rattle.std.proofs.Common.{◌≡◌, ◌<◌, ◌≤◌, ◌+◌, ◌⊎◌, inl, inr, ℕ, ℤ, Bool, IsTrue, List, [], ◌∷◌, ◌++◌, length, refl, sym, ◌∙◌, ap, subst, append-nil, length-append, arith}
+use Rattle.std.proofs.lemmas.List.Concat.{flat_map-append}
+use Rattle.commit_catalog.specs.declared.Limits.{Limits}
+use Rattle.lake_io.specs.declared.answers.End.{End}
+use Rattle.lake_io.specs.declared.answers.End.TheVariants as end
+use Rattle.object_store.specs.Files.{Files}
+use Rattle.table_model.specs.Log.{Commit}
+use Rattle.table_model.specs.World.{WorldData, log_of, commits_from}
+use Rattle.table_model.specs.Consistency.{IsConsistent}
+use Rattle.table_model.specs.Knowledge.{Knowledge, StartsWith, Terms, at_start}
+use Rattle.table_model.specs.Holding.{terms_of, IsLater}
+use Rattle.table_model.specs.Alone.{Alone, HasAll, IsAfter}
+use Rattle.table_model.proofs.Knowing.{length-log_of}
+use Rattle.table_model.proofs.Growing.{starts_refl}
+use Rattle.table_session.proofs.Wholes.{told_over, session_whole}
+use Rattle.table_world.specs.Worlds.{fresh_world}
+use Rattle.table_world.specs.Starting.{IsFresh}
+use Rattle.publisher.specs.Worlds.{IsSettled, KeepsLog}
+use Rattle.table_session.specs.Moments.{Moment}
+use Rattle.table_session.specs.Naming.{versions_of, spots_of}
+use Rattle.table_session.specs.Told.{versions_in, total}
+use Rattle.table_session.specs.Over.{IsWhole}
+use Rattle.table_session.specs.Sessions.{SessionOf, Wrote}
+use Rattle.delta_cli.specs.Endings.{IsStatusOf, IsCutShort, HasFailed}
+use Rattle.delta_cli.specs.Runs.{CountsCommits, HasRun}
+use Rattle.delta_cli.specs.declared.endings.Status.{Status}
+use Rattle.delta_cli.specs.declared.endings.Status.TheVariants as status
+
+-- a caller who knows nothing of a world without commits has seen them all
+new_has_all : (limits : Limits) (files : Files) (tells : Bool) → HasAll (record { world = fresh_world limits files tells; known = at_start (terms_of (fresh_world limits files tells)) })
+unfolding commits_from
+new_has_all limits files tells = record { seen = refl; mine = refl }
+
+same_front : (front rest whole : List Commit) → whole ≡ front ++ rest → length whole ≡ length front → whole ≡ front
+same_front front [] whole is long = is ∙ append-nil front
+same_front front (c ∷ cs) whole is long = absurd (omega (arith, long, ap length is, length-append front (c ∷ cs)))
+
+-- two logs of the same length, of which one begins the other, are the same
+same_log : (w x : WorldData) → StartsWith (log_of x) (log_of w) → x.records ≡ w.records → log_of x ≡ log_of w
+same_log w x s e = same_front (log_of w) s.rest (log_of x) s.is (length-log_of x ∙ ap length e ∙ sym (length-log_of w))
+
+lacks_none : (unsaid : List Moment) → unsaid ≡ [] → length (versions_in unsaid) ≡ 0
+lacks_none unsaid e = ap (λ xs. length (versions_in xs)) e
+
+-- where a reply is lacking, the sink failed or memory ran out
+lacking_by : (wrote : List ℕ) (said unsaid : List Moment) (e : End) → Wrote wrote said unsaid e → 0 < length (versions_in unsaid) → (e ≡ end.WriteFault) ⊎ (e ≡ end.Memory)
+lacking_by wrote said unsaid end.Done h some = absurd (omega (arith, some, lacks_none unsaid h.none))
+lacking_by wrote said unsaid end.ReadFault h some = absurd (omega (arith, some, lacks_none unsaid h.none))
+lacking_by wrote said unsaid end.WriteFault h some = inl refl
+lacking_by wrote said unsaid end.TooMuch h some = absurd (omega (arith, some, lacks_none unsaid h.none))
+lacking_by wrote said unsaid end.Memory h some = inr refl
+
+cut_short : (e : End) (st : Status) → IsStatusOf e st → (e ≡ end.WriteFault) ⊎ (e ≡ end.Memory) → IsCutShort st
+cut_short e status.Done s (inl h) = cc
+cut_short e status.Done s (inr h) = cc
+cut_short e status.Usage s h = s
+cut_short e status.Memory s h = tt
+cut_short e status.ReadFault s (inl h) = cc
+cut_short e status.ReadFault s (inr h) = cc
+cut_short e status.WriteFault s h = tt
+cut_short e status.StoreFault s (inl h) = cc
+cut_short e status.StoreFault s (inr h) = cc
+cut_short e status.NotEmpty s h = s
+cut_short e status.TooMuch s (inl h) = cc
+cut_short e status.TooMuch s (inr h) = cc
+
+versions_joined : (moments said unsaid : List Moment) → moments ≡ said ++ unsaid → length (versions_in said) + length (versions_in unsaid) ≡ length (versions_in moments)
+versions_joined moments said unsaid is =
+    sym
+    (ap (λ xs. length (versions_in xs)) is
+    ∙ ap length (flat_map-append (λ x. versions_of x.reply) said unsaid)
+    ∙ length-append (versions_in said) (versions_in unsaid))
+
+counts_commits : (wrote : List ℕ) (moments said unsaid : List Moment) (e : End) (st : Status) (log : ℕ) → moments ≡ said ++ unsaid → IsWhole moments said unsaid
+    → Wrote wrote said unsaid e → IsStatusOf e st → length (versions_in moments) ≡ log → CountsCommits (length (versions_in said)) (length (versions_in unsaid)) log st
+counts_commits wrote moments said unsaid e st log is whole w s all =
+    let joined : length (versions_in said) + length (versions_in unsaid) ≡ length (versions_in moments) = versions_joined moments said unsaid is in
+    record {
+      all = joined ∙ all;
+      most = omega (arith, joined, whole.most);
+      cut = λ some. cut_short e st s (lacking_by wrote said unsaid e w some);
+    }
+
+terms_same : (w x : WorldData) → IsLater w x → terms_of x ≡ terms_of w
+terms_same w x h = ap (λ (limits : Limits). let t : Terms = record { limits = limits; tells = x.tells } in t) h.limits ∙ ap (λ (tells : Bool). let t : Terms = record { limits = w.limits; tells = tells } in t) h.tells
+
+-- a fault of the session is one of the store
+rose_in_session : (w0 w1 : WorldData) (t : Terms) (k1 : Knowledge) (n : ℕ) → w0.tally ≡ 0
+    → IsAfter (record { world = w0; known = at_start t }) (record { world = w1; known = k1 }) → 0 < n → 0 + n ≤ k1.faults → 0 < w1.tally
+rose_in_session w0 w1 t k1 n none first some faults =
+    let rose : 0 < k1.faults = omega (arith, some, faults) in
+    omega (arith, first.cause rose, none)
+
+drain_failed : (tells : Bool) (w1 w2 : WorldData) (k1 k2 : Knowledge) → IsAfter (record { world = w1; known = k1 }) (record { world = w2; known = k2 })
+    → HasFailed tells k1 k2 → (w1.tally < w2.tally) ⊎ (¬ (IsTrue tells))
+drain_failed tells w1 w2 k1 k2 after (inl rose) = inl (after.cause rose)
+drain_failed tells w1 w2 k1 k2 after (inr untold) = inr untold
+
+held : (limits : Limits) (files : Files) (tells : Bool) (w0 w1 w2 : WorldData) (k1 k2 : Knowledge) (fixed : Bool) (reading : ℤ)
+    (in_tells : Bool) (taken left taken' left' : List ℕ) (out_tells : Bool) (written written' : List ℕ) (e : End) (st : Status)
+    → IsFresh limits files tells w0
+    → SessionOf tells (at_start (terms_of w0)) k1 fixed reading in_tells taken left taken' left' out_tells written written' e
+    → IsAfter (record { world = w0; known = at_start (terms_of w0) }) (record { world = w1; known = k1 })
+    → IsAfter (record { world = w1; known = k1 }) (record { world = w2; known = k2 })
+    → KeepsLog w1 w2
+    → IsStatusOf e st → (st ≡ status.StoreFault → HasFailed tells k1 k2) → (st ≡ status.Done → IsSettled w2) → IsConsistent w2
+    → HasRun limits tells files fixed reading in_tells taken left taken' left' out_tells written written' st w2
+held limits files tells w0 w1 w2 k1 k2 fixed reading in_tells taken left taken' left' out_tells written written' e st fresh session first second keeps ends failed settled consistent =
+    let start : HasAll (record { world = w0; known = at_start (terms_of w0) }) =
+    subst (λ (w : WorldData). HasAll (record { world = w; known = at_start (terms_of w) })) (sym fresh.is) (new_has_all limits files tells) in
+    let all : HasAll (record { world = w1; known = k1 }) = first.all start in
+    let none : w0.tally ≡ 0 = ap (λ (w : WorldData). w.tally) fresh.is in
+    let terms : terms_of w2 ≡ terms_of w0 = terms_same w1 w2 second.later ∙ terms_same w0 w1 first.later in
+    let there : SessionOf tells (at_start (terms_of w2)) k1 fixed reading in_tells taken left taken' left' out_tells written written' e =
+    subst (λ (t : Terms). SessionOf tells (at_start t) k1 fixed reading in_tells taken left taken' left' out_tells written written' e) (sym terms) session in
+    let log : log_of w2 ≡ log_of w1 = same_log w1 w2 second.later.log keeps.records in
+    let count : length (versions_in there.session.moments) ≡ length (log_of w2) =
+    sym (ap length there.session.told.mine) ∙ all.mine ∙ sym (length-log_of w1) ∙ sym (ap length log) in
+    record {
+      empty = fresh.empty;
+      limits_are = second.later.limits ∙ first.later.limits ∙ ap (λ (w : WorldData). w.limits) fresh.is;
+      consistent = consistent;
+      ended = e;
+      known = k1;
+      seen = all.seen ∙ sym log;
+      session = there;
+      status_is = ends;
+      told = told_over tells (at_start (terms_of w2)) k1 there.session.moments (log_of w2) (subst (λ (log : List Commit). StartsWith log k1.seen) (all.seen ∙ sym log) (starts_refl k1.seen)) there.session.told;
+      commits = counts_commits there.wrote there.session.moments there.session.said there.session.unsaid e st (length (log_of w2)) there.session.all
+          (session_whole tells there.read there.wrote (at_start (terms_of w2)) k1 e there.session) there.session.wrote_is ends count;
+      faults = λ t some. rose_in_session w0 w1 (terms_of w0) k1 (total (λ r. length (spots_of r)) there.session.moments) none first some (there.session.told.faults t);
+      rise = w1.tally;
+      later = second.later.tally;
+      drain = λ is. drain_failed tells w1 w2 k1 k2 second (failed is);
+      settled = settled;
+    }
+
+-- the same, where the caller is seen with its world
+pub held_by : (limits : Limits) (files : Files) (tells : Bool) (w0 w2 : WorldData) (a0 a1 a2 : Alone) (fixed : Bool) (reading : ℤ)
+    (in_tells : Bool) (taken left taken' left' : List ℕ) (out_tells : Bool) (written written' : List ℕ) (e : End) (st : Status)
+    → a0.world ≡ w0 → a0.known ≡ at_start (terms_of w0) → w2 ≡ a2.world
+    → IsFresh limits files tells w0
+    → SessionOf tells a0.known a1.known fixed reading in_tells taken left taken' left' out_tells written written' e
+    → IsAfter a0 a1 → IsAfter a1 a2 → KeepsLog a1.world a2.world
+    → IsStatusOf e st → (st ≡ status.StoreFault → HasFailed tells a1.known a2.known) → (st ≡ status.Done → IsSettled a2.world) → IsConsistent w2
+    → HasRun limits tells files fixed reading in_tells taken left taken' left' out_tells written written' st w2
+held_by limits files tells w0 w2 a0 a1 a2 fixed reading in_tells taken left taken' left' out_tells written written' e st world_is known_is last_is fresh session first second keeps ends failed settled consistent =
+    let start : a0 ≡ record { world = w0; known = at_start (terms_of w0) } =
+    ap (λ (w : WorldData). let a : Alone = record { world = w; known = a0.known } in a) world_is ∙ ap (λ (k : Knowledge). let a : Alone = record { world = w0; known = k } in a) known_is in
+    subst (λ (w : WorldData). HasRun limits tells files fixed reading in_tells taken left taken' left' out_tells written written' st w) (sym last_is)
+    (held limits files tells w0 a1.world a2.world a1.known a2.known fixed reading in_tells taken left taken' left' out_tells written written' e st fresh
+    (subst (λ (k : Knowledge). SessionOf tells k a1.known fixed reading in_tells taken left taken' left' out_tells written written' e) known_is session)
+    (subst (λ (a : Alone). IsAfter a a1) start first) second keeps ends failed settled (subst IsConsistent last_is consistent))

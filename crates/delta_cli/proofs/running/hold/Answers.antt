@@ -1,0 +1,13 @@
+use Rattle.delta_cli.proofs.Holding.{held_by}
+use Rattle.delta_cli.proofs.running.hold.Goals as goal
+
+pub returns-clause-run : goal.returns-clause-run
+returns-clause-run g c =
+    held_by _ c.args.world.files g.S.Store.tells c.args.world c.into_world.result c.new-solo.result c.session-end.new.caller c.settle-status.new.caller
+    g.C.Clock.fixed (g.C.Clock.reading c.args.clock.now)
+    g.I.Source.tells (g.I.Source.taken c.args.source.now) (g.I.Source.left c.args.source.now) (g.I.Source.taken c.session-end.new.source) (g.I.Source.left c.session-end.new.source)
+    g.O.Sink.tells (g.O.Sink.written c.args.sink.now) (g.O.Sink.written c.session-end.new.sink)
+    c.session-end.result c.settle-status.result
+    c.new-solo.ensures.world c.new-solo.ensures.nothing c.into_world.ensures.world c.requires c.session-end.ensures.session
+    c.session-end.ensures.after c.settle-status.ensures.after c.settle-status.ensures.log c.settle-status.ensures.end c.settle-status.ensures.cause c.settle-status.ensures.settled
+    c.into_world.ensures.consistent

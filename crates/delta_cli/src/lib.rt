@@ -1,0 +1,13 @@
+//! The top call: a session over a store, from the words of the command line to the status of the program.
+#![tactic(auto)]
+
+mod endings;
+mod running;
+mod settling;
+#[cfg(test)]
+mod tests;
+mod words;
+
+pub use endings::{Ended, Status};
+pub use running::{LIMITS, run};
+pub use words::{Command, USAGE, read_words};
