@@ -5,18 +5,20 @@ use Rattle.std.specs.declared.cmp.Ordering.TheVariants.{Less, Equal, Greater}
 use Rattle.std.specs.Ordering.{is_lt, ordering_reverse}
 use Rattle.std.specs.Cmp.Lexicographic.{nat_list_cmp_total}
 use Rattle.std.specs.List.{AllByRecursion, insert, list_all, list_any, position, position_or_len}
-use Rattle.std.specs.List.Sorted.{IsStrictlySortedBy}
+use Rattle.std.specs.List.Sorted.{IsPermutation, IsStrictlySortedBy}
 use Rattle.std.proofs.Math.Numerals.{one-add}
 use Rattle.std.proofs.lemmas.Bool.{and_from, and_parts, false_from_ne_true, ltb-false, not-true, or_parts}
 use Rattle.std.proofs.lemmas.Cmp.{tied_itself}
+use Rattle.std.proofs.lemmas.List.{append-nil}
 use Rattle.std.proofs.lemmas.List.Folds.{list_any-append}
 use Rattle.std.proofs.lemmas.List.Sums.{prefix_len-le-length}
+use Rattle.std.proofs.lemmas.List.Sorted.{IsPermutation-append_left, IsPermutation-cons, IsPermutation-middle, IsPermutation-refl, IsPermutation-sym, IsPermutation-trans}
 use Rattle.std.proofs.lemmas.Slice.Eq.{bytes_eq-Decides}
 use Rattle.action_types.specs.declared.actions.Action.TheVariants as action
 use Rattle.action_types.specs.declared.actions.Add.{Add}
 use Rattle.reconcile.specs.Keys.{name_cmp}
 use Rattle.reconcile.proofs.Named.{exact_names}
-use Rattle.staged_commit.specs.Adds.{adds_in_order, are_new, have_own_paths, is_after, with_add}
+use Rattle.staged_commit.specs.Adds.{IsInOrder, adds_in_order, are_new, have_own_paths, is_after, with_add}
 
 -- ---- the place of an add
 
@@ -170,3 +172,26 @@ rising-put before done (a ∷ more) n same r =
 pub rising-in-order : (adds : List Add) → have_own_paths adds ≡ true → Rising (adds_in_order adds)
 unfolding have_own_paths IsStrictlySortedBy
 rising-in-order adds h = rising-put [] [] adds h (λ p. refl) tt
+
+-- ---- the same adds
+
+swapped : (t : Bool) (a b : Add) (bs : List Add) → IsPermutation (a ∷ bs) (with_add a bs) → IsPermutation (a ∷ b ∷ bs) (cond t (a ∷ b ∷ bs) (b ∷ with_add a bs))
+swapped true a b bs h = IsPermutation-refl (a ∷ b ∷ bs)
+swapped false a b bs h =
+    IsPermutation-trans (a ∷ b ∷ bs) (b ∷ a ∷ bs) (b ∷ with_add a bs)
+    (IsPermutation-sym (b ∷ a ∷ bs) (a ∷ b ∷ bs) (IsPermutation-middle (b ∷ []) a bs)) (IsPermutation-cons b (a ∷ bs) (with_add a bs) h)
+
+one-put : (a : Add) (bs : List Add) → IsPermutation (a ∷ bs) (with_add a bs)
+one-put a [] = IsPermutation-refl (a ∷ [])
+one-put a (b ∷ bs) = swapped (is_after a.path b) a b bs (one-put a bs)
+
+all-put-same : (done more : List Add) → IsPermutation (done ++ more) (fold (λ l a. with_add a l) done more)
+all-put-same done [] = let same : done ++ [] ≡ done = append-nil done in rw same (IsPermutation-refl done)
+all-put-same done (a ∷ more) =
+    IsPermutation-trans (done ++ a ∷ more) ((a ∷ done) ++ more) (fold (λ l b. with_add b l) (with_add a done) more)
+    (IsPermutation-middle done a more)
+    (IsPermutation-trans ((a ∷ done) ++ more) (with_add a done ++ more) (fold (λ l b. with_add b l) (with_add a done) more)
+    (IsPermutation-append_left more (a ∷ done) (with_add a done) (one-put a done)) (all-put-same (with_add a done) more))
+
+pub in-order : (adds : List Add) → have_own_paths adds ≡ true → IsInOrder adds (adds_in_order adds)
+in-order adds h = record { same = all-put-same [] adds; rising = rising-in-order adds h }
