@@ -88,19 +88,22 @@ fn commit(alloc: Global, text: &str) -> Result<Vec<Action>, Fail> {
     Ok(actions)
 }
 
+/// The words of a text as a list of names.
+fn names(alloc: Global, text: &str) -> Result<Names, Fail> {
+    let mut list = Names::new(alloc);
+    for word in text.split_whitespace() {
+        list.push(Name::from_str(alloc, word)?)?;
+    }
+    Ok(list)
+}
+
 /// What an intent reads: `none`, `all`, or these paths.
 fn reads(alloc: Global, text: &str) -> Result<Reads, Fail> {
-    if text == "none" {
-        return Ok(Reads::None);
+    match text {
+        "none" => Ok(Reads::None),
+        "all" => Ok(Reads::All),
+        _ => Ok(Reads::Paths(names(alloc, text)?)),
     }
-    if text == "all" {
-        return Ok(Reads::All);
-    }
-    let mut paths = Names::new(alloc);
-    for path in text.split_whitespace() {
-        paths.push(Name::from_str(alloc, path)?)?;
-    }
-    Ok(Reads::Paths(paths))
 }
 
 /// The removes of these paths.
@@ -219,12 +222,17 @@ fn serializable_conflicts(rt: HostRuntime) -> Result<(), Fail> {
     Ok(())
 }
 
-#[test]
-fn first_winner_is_named(rt: HostRuntime) -> Result<(), Fail> {
-    let alloc = rt.alloc();
+/// The place of the first winner that conflicts, where the only one does.
+fn first_place(alloc: Global) -> Result<Option<usize>, Fail> {
     let intent = intent(alloc, Level::WriteSerializable, "b", "a")?;
     let winner = commit(alloc, "info; remove b; remove a")?;
-    let lowest = first_conflict_of(&intent, &base(alloc)?, slice::from_ref(&winner));
-    assert_eq!(rt; lowest.map_or(1, |lowest| lowest.place), 0);
+    let base = base(alloc)?;
+    let lowest = first_conflict_of(&intent, &base, slice::from_ref(&winner));
+    Ok(lowest.map(|lowest| lowest.place))
+}
+
+#[test]
+fn first_winner_is_named(rt: HostRuntime) -> Result<(), Fail> {
+    assert_eq!(rt; first_place(rt.alloc())?, Some(0));
     Ok(())
 }
