@@ -7,11 +7,12 @@ use std::test::Fail;
 
 /// An add of a file.
 fn add(alloc: Global, path: &str, change: bool) -> Result<Add, Fail> {
+    let path = Name::from_str(alloc, path)?;
     Ok(Add {
         change,
         modified: 5,
         values: Pairs::new(alloc),
-        path: Name::from_str(alloc, path)?,
+        path,
         size: 10,
         stats: None,
         tags: None,
@@ -32,18 +33,21 @@ fn remove(alloc: Global, path: &str) -> Result<Remove, Fail> {
 
 /// A metaData.
 fn meta(alloc: Global) -> Result<Meta, Fail> {
+    let provider = Name::from_str(alloc, "parquet")?;
+    let id = Name::from_str(alloc, "t1")?;
+    let schema = Name::from_str(alloc, "{}")?;
     Ok(Meta {
         configuration: Pairs::new(alloc),
         created: None,
         description: None,
         format: Format {
-            provider: Name::from_str(alloc, "parquet")?,
+            provider,
             options: Pairs::new(alloc),
         },
-        id: Name::from_str(alloc, "t1")?,
+        id,
         name: None,
         columns: Names::new(alloc),
-        schema: Name::from_str(alloc, "{}")?,
+        schema,
     })
 }
 
@@ -84,34 +88,51 @@ fn commit(alloc: Global, text: &str) -> Result<Vec<Action>, Fail> {
     Ok(actions)
 }
 
-/// What an intent reads: `none`, `all`, or these paths.
-fn reads(alloc: Global, text: &str) -> Result<Reads, Fail> {
-    if text == "none" {
-        return Ok(Reads::None);
+/// The words of a text as a list of names.
+fn names(alloc: Global, text: &str) -> Result<Names, Fail> {
+    let mut list = Names::new(alloc);
+    for word in text.split_whitespace() {
+        list.push(Name::from_str(alloc, word)?)?;
     }
-    if text == "all" {
-        return Ok(Reads::All);
-    }
-    let mut paths = Names::new(alloc);
-    for path in text.split_whitespace() {
-        paths.push(Name::from_str(alloc, path)?)?;
-    }
-    Ok(Reads::Paths(paths))
+    Ok(list)
 }
 
-/// An intent of the application A.
-fn intent(alloc: Global, level: Level, read: &str, removed: &str) -> Result<Intent, Fail> {
+/// What an intent reads: `none`, `all`, or these paths.
+fn reads(alloc: Global, text: &str) -> Result<Reads, Fail> {
+    match text {
+        "none" => Ok(Reads::None),
+        "all" => Ok(Reads::All),
+        _ => Ok(Reads::Paths(names(alloc, text)?)),
+    }
+}
+
+/// The removes of these paths.
+fn removes(alloc: Global, removed: &str) -> Result<Removes, Fail> {
     let mut removes = Removes::new(alloc);
     for path in removed.split_whitespace() {
         removes.push(remove(alloc, path)?)?;
     }
+    Ok(removes)
+}
+
+/// One add.
+fn adds(alloc: Global) -> Result<Adds, Fail> {
     let mut adds = Adds::new(alloc);
     adds.push(add(alloc, "new", true)?)?;
+    Ok(adds)
+}
+
+/// An intent of the application A.
+fn intent(alloc: Global, level: Level, read: &str, removed: &str) -> Result<Intent, Fail> {
+    let app = Name::from_str(alloc, "A")?;
+    let reads = reads(alloc, read)?;
+    let adds = adds(alloc)?;
+    let removes = removes(alloc, removed)?;
     Ok(Intent {
-        app: Name::from_str(alloc, "A")?,
+        app,
         number: 1,
         level,
-        reads: reads(alloc, read)?,
+        reads,
         adds,
         removes,
         change: None,
@@ -130,12 +151,16 @@ fn said(alloc: Global, clash: Option<Clash>) -> Result<String, Fail> {
     }
 }
 
+fn applied(alloc: Global, state: State, text: &str) -> Result<State, Fail> {
+    let commit = commit(alloc, text)?;
+    Ok(state.apply(commit.as_slice())?)
+}
+
 /// The base: `a` and `b` are live, and `gone` is a tombstone.
 fn base(alloc: Global) -> Result<State, Fail> {
-    let first = commit(alloc, "info; protocol; meta; add a; add b; add gone")?;
-    let second = commit(alloc, "info; remove gone")?;
-    let state = State::empty(alloc).apply(first.as_slice())?;
-    Ok(state.apply(second.as_slice())?)
+    let text = "info; protocol; meta; add a; add b; add gone";
+    let state = applied(alloc, State::empty(alloc), text)?;
+    applied(alloc, state, "info; remove gone")
 }
 
 /// What the conflict of an intent with a winner says, where a row is the reads, the removes and the
@@ -150,55 +175,64 @@ fn conflict(alloc: Global, level: Level, row: &str) -> Result<String, Fail> {
     said(alloc, first_conflict(&intent, &base, winner.as_slice()))
 }
 
+/// Reads, removes and a winner, and its conflict with a writer that is not serializable.
+const CONFLICTS: [(&str, &str); 16] = [
+    ("none||info; txn B; add x", ""),
+    ("none||info; protocol", "Protocol "),
+    ("none||info; meta", "Metadata "),
+    ("none||info; meta; protocol", "Protocol "),
+    ("none||info; txn A; meta", "Metadata "),
+    ("none|a|info; txn A; remove a", "Transaction A"),
+    ("none|a|info; remove a", "DeleteDelete a"),
+    ("none|b a|info; remove b; remove a", "DeleteDelete a"),
+    ("none|a|info; remove b", ""),
+    ("b|a|info; remove b; remove a", "DeleteDelete a"),
+    ("b||info; remove b", "DeleteRead b"),
+    ("b||info; remove a", ""),
+    ("all||info; remove b; remove a", "DeleteRead a"),
+    ("all||info; remove gone", ""),
+    ("all||info; add x", ""),
+    ("all||info; remove gone; add x", "Append x"),
+];
+
 #[test]
 fn conflicts(rt: HostRuntime) -> Result<(), Fail> {
-    let rows = [
-        ("none||info; txn B; add x", ""),
-        ("none||info; protocol", "Protocol "),
-        ("none||info; meta", "Metadata "),
-        ("none||info; meta; protocol", "Protocol "),
-        ("none||info; txn A; meta", "Metadata "),
-        ("none|a|info; txn A; remove a", "Transaction A"),
-        ("none|a|info; remove a", "DeleteDelete a"),
-        ("none|b a|info; remove b; remove a", "DeleteDelete a"),
-        ("none|a|info; remove b", ""),
-        ("b|a|info; remove b; remove a", "DeleteDelete a"),
-        ("b||info; remove b", "DeleteRead b"),
-        ("b||info; remove a", ""),
-        ("all||info; remove b; remove a", "DeleteRead a"),
-        ("all||info; remove gone", ""),
-        ("all||info; add x", ""),
-        ("all||info; remove gone; add x", "Append x"),
-    ];
-    for (row, wanted) in rows {
+    for (row, wanted) in CONFLICTS {
         let clash = conflict(rt.alloc(), Level::WriteSerializable, row)?;
         assert_eq!(rt; clash.as_str(), wanted, "{row}");
     }
     Ok(())
 }
 
+/// The same with a serializable writer.
+const SERIALIZABLE: [(&str, &str); 5] = [
+    ("none||info; add x; remove a", ""),
+    ("all||info; add y; add x", "Append x"),
+    ("all||info; same x", ""),
+    ("all||info; add x; remove a", "DeleteRead a"),
+    ("a||info; add x", ""),
+];
+
 #[test]
 fn serializable_conflicts(rt: HostRuntime) -> Result<(), Fail> {
-    let rows = [
-        ("none||info; add x; remove a", ""),
-        ("all||info; add y; add x", "Append x"),
-        ("all||info; same x", ""),
-        ("all||info; add x; remove a", "DeleteRead a"),
-        ("a||info; add x", ""),
-    ];
-    for (row, wanted) in rows {
+    for (row, wanted) in SERIALIZABLE {
         let clash = conflict(rt.alloc(), Level::Serializable, row)?;
         assert_eq!(rt; clash.as_str(), wanted, "{row}");
     }
     Ok(())
 }
 
-#[test]
-fn first_winner_is_named(rt: HostRuntime) -> Result<(), Fail> {
-    let alloc = rt.alloc();
+/// The place of the first winner that conflicts, where the only one does.
+fn first_place(alloc: Global) -> Result<Option<usize>, Fail> {
     let intent = intent(alloc, Level::WriteSerializable, "b", "a")?;
     let winner = commit(alloc, "info; remove b; remove a")?;
-    let lowest = first_conflict_of(&intent, &base(alloc)?, slice::from_ref(&winner));
-    assert_eq!(rt; lowest.map_or(1, |lowest| lowest.place), 0);
+    let base = base(alloc)?;
+    let lowest = first_conflict_of(&intent, &base, slice::from_ref(&winner));
+    Ok(lowest.map(|lowest| lowest.place))
+}
+
+#[test]
+fn first_winner_is_named(rt: HostRuntime) -> Result<(), Fail> {
+    assert_eq!(rt; first_place(rt.alloc())?, Some(0));
     Ok(())
 }

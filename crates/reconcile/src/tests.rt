@@ -3,10 +3,61 @@ use action_types::{Action, Add, Format, Info, Meta, Name, Names, Pairs, Protocol
 use std::alloc::{AllocError, Global};
 use std::test::Fail;
 
-const PATHS: [&str; 4] = ["a", "b", "b/c", "é"];
+/// A kind of action.
+#[derive(Clone, Copy)]
+enum Kind {
+    Info,
+    Protocol,
+    Meta,
+    Txn,
+    Remove,
+    Add,
+}
 
-fn info(time: i64) -> Action {
-    Action::Info(Info { time, txn_id: None })
+/// An action in short: its kind, the path or application that it names, and its number (a time, a version
+/// or a size).
+type Short = (Kind, &'static str, i64);
+
+fn meta(alloc: Global, created: i64) -> Result<Action, AllocError> {
+    let provider = Name::from_str(alloc, "parquet")?;
+    let id = Name::from_str(alloc, "t1")?;
+    let schema = Name::from_str(alloc, "{}")?;
+    Ok(Action::Meta(Meta {
+        configuration: Pairs::new(alloc),
+        created: Some(created),
+        description: None,
+        format: Format {
+            provider,
+            options: Pairs::new(alloc),
+        },
+        id,
+        name: None,
+        columns: Names::new(alloc),
+        schema,
+    }))
+}
+
+fn add(alloc: Global, path: Name, size: i64) -> Action {
+    Action::Add(Add {
+        change: true,
+        modified: 5,
+        values: Pairs::new(alloc),
+        path,
+        size,
+        stats: None,
+        tags: None,
+    })
+}
+
+fn remove(path: Name, deleted: i64) -> Action {
+    Action::Remove(Remove {
+        change: true,
+        deleted: Some(deleted),
+        extended: None,
+        values: None,
+        path,
+        size: None,
+    })
 }
 
 fn protocol(reader: i64) -> Action {
@@ -18,65 +69,182 @@ fn protocol(reader: i64) -> Action {
     })
 }
 
-fn meta(alloc: Global, created: i64) -> Result<Action, AllocError> {
-    Ok(Action::Meta(Meta {
-        configuration: Pairs::new(alloc),
-        created: Some(created),
-        description: None,
-        format: Format {
-            provider: Name::from_str(alloc, "parquet")?,
-            options: Pairs::new(alloc),
-        },
-        id: Name::from_str(alloc, "t1")?,
-        name: None,
-        columns: Names::new(alloc),
-        schema: Name::from_str(alloc, "{}")?,
-    }))
-}
-
-fn txn(alloc: Global, app: &str, number: i64) -> Result<Action, AllocError> {
-    Ok(Action::Txn(Txn {
-        app: Name::from_str(alloc, app)?,
+fn txn(app: Name, number: i64) -> Action {
+    Action::Txn(Txn {
+        app,
         updated: None,
         number,
-    }))
+    })
 }
 
-fn add(alloc: Global, path: &str, size: i64) -> Result<Action, AllocError> {
-    Ok(Action::Add(Add {
-        change: true,
-        modified: 5,
-        values: Pairs::new(alloc),
-        path: Name::from_str(alloc, path)?,
-        size,
-        stats: None,
-        tags: None,
-    }))
+fn info(time: i64) -> Action {
+    Action::Info(Info { time, txn_id: None })
 }
 
-fn remove(alloc: Global, path: &str, deleted: i64) -> Result<Action, AllocError> {
-    Ok(Action::Remove(Remove {
-        change: true,
-        deleted: Some(deleted),
-        extended: None,
-        values: None,
-        path: Name::from_str(alloc, path)?,
+fn action(alloc: Global, short: Short) -> Result<Action, AllocError> {
+    let (kind, name, number) = short;
+    match kind {
+        Kind::Info => Ok(info(number)),
+        Kind::Protocol => Ok(protocol(number)),
+        Kind::Meta => meta(alloc, number),
+        Kind::Txn => Ok(txn(Name::from_str(alloc, name)?, number)),
+        Kind::Remove => Ok(remove(Name::from_str(alloc, name)?, number)),
+        Kind::Add => Ok(add(alloc, Name::from_str(alloc, name)?, number)),
+    }
+}
+
+fn commit(alloc: Global, shorts: &[Short]) -> Result<Vec<Action>, AllocError> {
+    let mut actions = Vec::new(alloc);
+    for short in shorts {
+        actions.push(action(alloc, *short)?)?;
+    }
+    Ok(actions)
+}
+
+fn state_of(alloc: Global, commits: &[Vec<Action>]) -> Result<State, AllocError> {
+    let mut state = State::empty(alloc);
+    for commit in commits {
+        state = state.apply(commit.as_slice())?;
+    }
+    Ok(state)
+}
+
+/// What is seen of the file `a` and of the application `A`.
+#[derive(PartialEq, Debug, Clone, Copy)]
+struct Seen {
+    size: Option<i64>,
+    deleted: Option<i64>,
+    number: Option<i64>,
+    time: Option<i64>,
+}
+
+fn look_at(state: &State) -> Seen {
+    Seen {
+        size: state.live("a").map(|add| add.size),
+        deleted: state.gone("a").and_then(|remove| remove.deleted),
+        number: state.number("A"),
+        time: state.time(),
+    }
+}
+
+/// The commits of a table whose file is added, removed and added again.
+const WORKED: [[Short; 3]; 4] = [
+    [
+        (Kind::Info, "", 1000),
+        (Kind::Protocol, "", 3),
+        (Kind::Meta, "", 1000),
+    ],
+    [
+        (Kind::Info, "", 1001),
+        (Kind::Txn, "A", 1),
+        (Kind::Add, "a", 10),
+    ],
+    [
+        (Kind::Info, "", 1002),
+        (Kind::Txn, "A", 2),
+        (Kind::Remove, "a", 1002),
+    ],
+    [
+        (Kind::Info, "", 1003),
+        (Kind::Txn, "A", 3),
+        (Kind::Add, "a", 30),
+    ],
+];
+
+/// The state of the first commits of that table.
+fn worked_state(alloc: Global, len: usize) -> Result<State, AllocError> {
+    let mut state = State::empty(alloc);
+    for shorts in &WORKED[..len.min(4)] {
+        let commit = commit(alloc, shorts)?;
+        state = state.apply(commit.as_slice())?;
+    }
+    Ok(state)
+}
+
+fn worked_seen(alloc: Global, len: usize) -> Result<Seen, AllocError> {
+    Ok(look_at(&worked_state(alloc, len)?))
+}
+
+fn copy_seen(alloc: Global, time: i64) -> Result<Seen, AllocError> {
+    let copy = worked_state(alloc, 4)?.copy()?;
+    Ok(look_at(&copy.with_time(time)))
+}
+
+#[test]
+fn remove_and_add_again(rt: HostRuntime) -> Result<(), Fail> {
+    let removed = Seen {
         size: None,
-    }))
+        deleted: Some(1002),
+        number: Some(2),
+        time: Some(1002),
+    };
+    let added = Seen {
+        size: Some(30),
+        deleted: None,
+        number: Some(3),
+        time: Some(1003),
+    };
+    assert_eq!(rt; worked_seen(rt.alloc(), 3)?, removed);
+    assert_eq!(rt; worked_seen(rt.alloc(), 4)?, added);
+    assert_eq!(rt; copy_seen(rt.alloc(), 1003)?, added);
+    Ok(())
 }
 
-/// Whether what the walks give is what the plain search finds.
-fn walks_agree(state: &State, commits: &[Vec<Action>]) -> bool {
+const PATHS: [&str; 4] = ["a", "b", "b/c", "é"];
+
+/// The action of a number: of each kind, over the four paths, which are applications' ids too.
+fn made_short(number: u64) -> Short {
+    let kind = match number % 8 {
+        0 => Kind::Info,
+        1 => Kind::Protocol,
+        2 => Kind::Meta,
+        3 => Kind::Txn,
+        4 | 5 => Kind::Remove,
+        _ => Kind::Add,
+    };
+    (
+        kind,
+        PATHS[(number / 8 % 4) as usize],
+        (number / 32 % 1000) as i64,
+    )
+}
+
+/// A commit of two made actions.
+fn made(seed: u64) -> [Short; 2] {
+    let first = seed.wrapping_mul(6364136223846793005);
+    let second = first.wrapping_add(1442695040888963407);
+    [made_short(first >> 33), made_short(second >> 33)]
+}
+
+/// A made list of commits.
+fn made_log(alloc: Global, seed: u64, len: u64) -> Result<Vec<Vec<Action>>, AllocError> {
+    let mut commits = Vec::new(alloc);
+    for version in 0..len {
+        let shorts = made(seed.wrapping_add(version));
+        commits.push(commit(alloc, &shorts)?)?;
+    }
+    Ok(commits)
+}
+
+fn files_agree(state: &State, commits: &[Vec<Action>]) -> bool {
     for file in state.files() {
         if plain::live(commits, file.path.as_str()).map(|a| a.size) != Some(file.size) {
             return false;
         }
     }
+    true
+}
+
+fn tombstones_agree(state: &State, commits: &[Vec<Action>]) -> bool {
     for gone in state.tombstones() {
         if plain::gone(commits, gone.path.as_str()).map(|r| r.deleted) != Some(gone.deleted) {
             return false;
         }
     }
+    true
+}
+
+fn txns_agree(state: &State, commits: &[Vec<Action>]) -> bool {
     for txn in state.txns() {
         if plain::number(commits, txn.app.as_str()) != Some(txn.number) {
             return false;
@@ -101,146 +269,34 @@ fn paths_agree(state: &State, commits: &[Vec<Action>]) -> bool {
     true
 }
 
-fn same(state: &State, commits: &[Vec<Action>]) -> bool {
-    walks_agree(state, commits)
-        && paths_agree(state, commits)
-        && state.time() == plain::time(commits)
+fn table_agrees(state: &State, commits: &[Vec<Action>]) -> bool {
+    state.time() == plain::time(commits)
         && state.protocol().map(|p| p.reader) == plain::protocol(commits).map(|p| p.reader)
         && state.meta().map(|m| m.created) == plain::meta(commits).map(|m| m.created)
 }
 
-fn created(alloc: Global, time: i64) -> Result<Vec<Action>, AllocError> {
-    let mut actions = Vec::new(alloc);
-    actions.push(info(time))?;
-    actions.push(protocol(3))?;
-    actions.push(meta(alloc, time)?)?;
-    Ok(actions)
+fn same(state: &State, commits: &[Vec<Action>]) -> bool {
+    files_agree(state, commits)
+        && tombstones_agree(state, commits)
+        && txns_agree(state, commits)
+        && paths_agree(state, commits)
+        && table_agrees(state, commits)
 }
 
-/// A commit of the application `A` with this number and one more action.
-fn written(
-    alloc: Global,
-    time: i64,
-    number: i64,
-    action: Action,
-) -> Result<Vec<Action>, AllocError> {
-    let mut actions = Vec::new(alloc);
-    actions.push(info(time))?;
-    actions.push(txn(alloc, "A", number)?)?;
-    actions.push(action)?;
-    Ok(actions)
-}
-
-/// The first three commits of a table whose file is removed and added again.
-fn three_commits(alloc: Global) -> Result<Vec<Vec<Action>>, AllocError> {
-    let mut commits = Vec::new(alloc);
-    commits.push(created(alloc, 1000)?)?;
-    commits.push(written(alloc, 1001, 1, add(alloc, "a", 10)?)?)?;
-    commits.push(written(alloc, 1002, 2, remove(alloc, "a", 1002)?)?)?;
-    Ok(commits)
-}
-
-fn state_of(alloc: Global, commits: &[Vec<Action>]) -> Result<State, AllocError> {
-    let mut state = State::empty(alloc);
-    for commit in commits {
-        state = state.apply(commit.as_slice())?;
-    }
-    Ok(state)
-}
-
-fn is_removed(state: &State) -> bool {
-    state.live("a").is_none()
-        && state.gone("a").map(|r| r.deleted) == Some(Some(1002))
-        && state.number("A") == Some(2)
-        && state.time() == Some(1002)
-}
-
-fn is_added_again(state: &State) -> bool {
-    state.live("a").map(|a| a.size) == Some(30)
-        && state.gone("a").is_none()
-        && state.number("A") == Some(3)
-        && state.time() == Some(1003)
-}
-
-fn four_commits(alloc: Global) -> Result<Vec<Vec<Action>>, AllocError> {
-    let mut commits = three_commits(alloc)?;
-    commits.push(written(alloc, 1003, 3, add(alloc, "a", 30)?)?)?;
-    Ok(commits)
-}
-
-fn removes(alloc: Global) -> Result<bool, AllocError> {
-    let commits = three_commits(alloc)?;
+/// Whether the state of a made list of commits is what the plain search finds.
+fn made_log_agrees(alloc: Global, seed: u64, len: u64) -> Result<bool, AllocError> {
+    let commits = made_log(alloc, seed, len)?;
     let state = state_of(alloc, commits.as_slice())?;
-    Ok(is_removed(&state) && same(&state, commits.as_slice()))
-}
-
-fn adds_again(alloc: Global) -> Result<bool, AllocError> {
-    let commits = four_commits(alloc)?;
-    let state = state_of(alloc, commits.as_slice())?;
-    Ok(is_added_again(&state) && same(&state, commits.as_slice()))
-}
-
-fn copies(alloc: Global) -> Result<bool, AllocError> {
-    let commits = four_commits(alloc)?;
-    let copy = state_of(alloc, commits.as_slice())?.copy()?;
-    Ok(same(&copy, commits.as_slice()) && copy.with_time(7).time() == Some(7))
-}
-
-#[test]
-fn remove_and_add_again(rt: HostRuntime) -> Result<(), Fail> {
-    let alloc = rt.alloc();
-    assert!(rt; removes(alloc)?);
-    assert!(rt; adds_again(alloc)?);
-    assert!(rt; copies(alloc)?);
-    Ok(())
-}
-
-/// The action of a number: of each kind, over the four paths.
-fn made(alloc: Global, number: u64) -> Result<Action, AllocError> {
-    let path = PATHS[(number / 8 % 4) as usize];
-    let value = (number / 32 % 1000) as i64;
-    match number % 8 {
-        0 => Ok(info(value)),
-        1 => Ok(protocol(value)),
-        2 => meta(alloc, value),
-        3 => txn(alloc, path, value),
-        4 | 5 => remove(alloc, path, value),
-        _ => add(alloc, path, value),
-    }
-}
-
-/// A commit of four made actions.
-fn made_commit(alloc: Global, seed: u64) -> Result<Vec<Action>, AllocError> {
-    let mut actions = Vec::new(alloc);
-    let mut number = seed;
-    for _ in 0..4 {
-        number = number
-            .wrapping_mul(6364136223846793005)
-            .wrapping_add(1442695040888963407);
-        actions.push(made(alloc, number >> 33)?)?;
-    }
-    Ok(actions)
-}
-
-/// Whether a made log has one state, step by step, with the plain search.
-fn made_log_agrees(alloc: Global, seed: u64) -> Result<bool, AllocError> {
-    let mut state = State::empty(alloc);
-    let mut commits = Vec::new(alloc);
-    for version in 0..12u64 {
-        let commit = made_commit(alloc, seed.wrapping_add(version))?;
-        state = state.apply(commit.as_slice())?;
-        commits.push(commit)?;
-        if !same(&state, commits.as_slice()) {
-            return Ok(false);
-        }
-    }
-    Ok(true)
+    Ok(same(&state, commits.as_slice()))
 }
 
 #[test]
 fn made_logs_as_the_plain_search(rt: HostRuntime) -> Result<(), Fail> {
-    for log in 0..20u64 {
-        assert!(rt; made_log_agrees(rt.alloc(), log * 100)?, "log {log}");
+    for seed in 0..40u64 {
+        assert!(rt;
+            made_log_agrees(rt.alloc(), seed * 100, seed)?,
+            "log {seed}"
+        );
     }
     Ok(())
 }

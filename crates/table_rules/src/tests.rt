@@ -28,39 +28,62 @@ fn protocol(
     })
 }
 
-/// A metaData: `off` lacks the property of in-commit timestamps, `columns` has a partition column.
-fn meta(alloc: Global, form: &str, column: &str) -> Result<Meta, Fail> {
-    let mut configuration = Pairs::new(alloc);
+/// Adds a property that is `true`.
+fn switch_on(alloc: Global, pairs: &mut Pairs, name: &str) -> Result<(), Fail> {
+    let on = Name::from_str(alloc, "true")?;
+    pairs.push(Name::from_str(alloc, name)?, Some(on))?;
+    Ok(())
+}
+
+/// The properties: `off` lacks that of in-commit timestamps.
+fn configuration(alloc: Global, form: &str) -> Result<Pairs, Fail> {
+    let mut pairs = Pairs::new(alloc);
     if form == "appendOnly" {
-        let on = Name::from_str(alloc, "true")?;
-        configuration.push(Name::from_str(alloc, "delta.appendOnly")?, Some(on))?;
+        switch_on(alloc, &mut pairs, "delta.appendOnly")?;
     }
     if form != "off" {
-        let on = Name::from_str(alloc, "true")?;
-        let name = Name::from_str(alloc, "delta.enableInCommitTimestamps")?;
-        configuration.push(name, Some(on))?;
+        switch_on(alloc, &mut pairs, "delta.enableInCommitTimestamps")?;
     }
-    let mut columns = Names::new(alloc);
-    if form == "columns" {
-        columns.push(Name::from_str(alloc, column)?)?;
-    }
-    let schema = if form == "invariants" {
+    Ok(pairs)
+}
+
+/// The partition columns.
+fn columns(alloc: Global, form: &str, column: &str) -> Result<Names, Fail> {
+    names(alloc, if form == "columns" { column } else { "" })
+}
+
+fn schema(form: &str) -> &'static str {
+    if form == "invariants" {
         "{\"delta.invariants\":{}}"
     } else {
         "{\"type\":\"struct\",\"fields\":[]}"
-    };
+    }
+}
+
+fn parquet(alloc: Global) -> Result<Format, Fail> {
+    let provider = Name::from_str(alloc, "parquet")?;
+    Ok(Format {
+        provider,
+        options: Pairs::new(alloc),
+    })
+}
+
+/// A metaData.
+fn meta(alloc: Global, form: &str, column: &str) -> Result<Meta, Fail> {
+    let configuration = configuration(alloc, form)?;
+    let format = parquet(alloc)?;
+    let id = Name::from_str(alloc, "t1")?;
+    let columns = columns(alloc, form, column)?;
+    let schema = Name::from_str(alloc, schema(form))?;
     Ok(Meta {
         configuration,
         created: None,
         description: None,
-        format: Format {
-            provider: Name::from_str(alloc, "parquet")?,
-            options: Pairs::new(alloc),
-        },
-        id: Name::from_str(alloc, "t1")?,
+        format,
+        id,
         name: None,
         columns,
-        schema: Name::from_str(alloc, schema)?,
+        schema,
     })
 }
 
@@ -137,155 +160,187 @@ fn commit(alloc: Global, text: &str) -> Result<Vec<Action>, Fail> {
     Ok(actions)
 }
 
-/// The state of the commits of a text, one after each `/`.
+fn applied(alloc: Global, state: State, text: &str) -> Result<State, Fail> {
+    let commit = commit(alloc, text)?;
+    Ok(state.apply(commit.as_slice())?)
+}
+
+/// The state of one or two commits, with a `/` between them.
 fn state(alloc: Global, text: &str) -> Result<State, Fail> {
-    let mut state = State::empty(alloc);
-    for part in text.split('/') {
-        state = state.apply(commit(alloc, part)?.as_slice())?;
+    let first = text.split('/').next().unwrap_or("");
+    let state = applied(alloc, State::empty(alloc), first)?;
+    match text.split_once('/') {
+        Some((_, second)) => applied(alloc, state, second),
+        None => Ok(state),
     }
-    Ok(state)
 }
 
 /// What a check says, in a line.
 fn said(alloc: Global, checked: &Result<(), Broken>) -> Result<String, Fail> {
-    let text = match checked {
-        Ok(()) => String::from_str(alloc, "")?,
-        Err(broken) => match broken {
-            Broken::NoInfo => String::from_str(alloc, "NoInfo")?,
-            Broken::NoMeta => String::from_str(alloc, "NoMeta")?,
-            Broken::TimeNotAfter { last } => format!(in alloc; "TimeNotAfter {last}")?,
-            Broken::Feature { name } => format!(in alloc; "Feature {name:?}")?,
-            Broken::Property { name } => format!(in alloc; "Property {name:?}")?,
-            Broken::Invariants => String::from_str(alloc, "Invariants")?,
-            Broken::Columns => String::from_str(alloc, "Columns")?,
-            Broken::TxnNotAfter { app, recorded } => {
-                format!(in alloc; "TxnNotAfter {app:?} {recorded}")?
-            }
-            Broken::NotLive { path } => format!(in alloc; "NotLive {path:?}")?,
-            Broken::AppendOnly { path } => format!(in alloc; "AppendOnly {path:?}")?,
-            Broken::Partition { path } => format!(in alloc; "Partition {path:?}")?,
-            Broken::Memory => String::from_str(alloc, "Memory")?,
-        },
-    };
-    Ok(text)
+    match checked {
+        Ok(()) => Ok(String::new(alloc)),
+        Err(broken) => Ok(format!(in alloc; "{broken:?}")?),
+    }
 }
+
+/// A first commit and what is said of it.
+const FIRST_COMMITS: [(&str, &str); 10] = [
+    ("info 5; protocol; meta", ""),
+    ("info 5; protocol; meta columns p; add a p", ""),
+    ("", "NoInfo"),
+    ("protocol; info 5; meta", "NoInfo"),
+    ("info 5; meta", "NoMeta"),
+    ("info 5; protocol", "NoMeta"),
+    (
+        "info 5; protocol columnMapping; meta",
+        "Feature { name: \"columnMapping\" }",
+    ),
+    (
+        "info 5; protocol deletionVectors; meta off",
+        "Feature { name: \"deletionVectors\" }",
+    ),
+    ("info 5; protocol; meta invariants", "Invariants"),
+    (
+        "info 5; protocol; meta; remove a",
+        "NotLive { path: \"a\" }",
+    ),
+];
 
 #[test]
 fn first_commits(rt: HostRuntime) -> Result<(), Fail> {
-    let rows = [
-        ("info 5; protocol; meta", ""),
-        ("info 5; protocol; meta columns p; add a p", ""),
-        ("", "NoInfo"),
-        ("protocol; info 5; meta", "NoInfo"),
-        ("info 5; meta", "NoMeta"),
-        ("info 5; protocol", "NoMeta"),
-        (
-            "info 5; protocol columnMapping; meta",
-            "Feature \"columnMapping\"",
-        ),
-        (
-            "info 5; protocol deletionVectors; meta off",
-            "Feature \"deletionVectors\"",
-        ),
-        ("info 5; protocol; meta invariants", "Invariants"),
-        ("info 5; protocol; meta; remove a", "NotLive \"a\""),
-    ];
     let alloc = rt.alloc();
-    for (text, wanted) in rows {
+    for (text, wanted) in FIRST_COMMITS {
         let result = check_create(alloc, commit(alloc, text)?.as_slice());
         assert_eq!(rt; said(alloc, &result)?.as_str(), wanted, "{text}");
     }
     Ok(())
 }
 
+const APPEND_ONLY: &str = "info 1000; protocol appendOnly; meta appendOnly; add a; add b";
+
+const COLUMNS: &str = "info 1000; protocol; meta columns p";
+
+/// Commits, a next one, and what is said of it.
+const NEXT_COMMITS: [(&str, &str, &str); 19] = [
+    (BASE, "info 1001; txn A 3; remove a; add c", ""),
+    (BASE, "info 1000; txn A 3", "TimeNotAfter { last: 1000 }"),
+    (
+        BASE,
+        "info 999; txn A 1; remove c",
+        "TimeNotAfter { last: 1000 }",
+    ),
+    (
+        BASE,
+        "info 1001; protocol rowTracking",
+        "Feature { name: \"rowTracking\" }",
+    ),
+    (
+        BASE,
+        "info 1001; meta off",
+        "Property { name: \"delta.enableInCommitTimestamps\" }",
+    ),
+    (BASE, "info 1001; meta invariants", "Invariants"),
+    (BASE, "info 1001; meta columns p", "Columns"),
+    (
+        BASE,
+        "info 1001; txn A 2",
+        "TxnNotAfter { app: \"A\", recorded: 2 }",
+    ),
+    (
+        BASE,
+        "info 1001; txn B 7; txn A 1; remove c",
+        "TxnNotAfter { app: \"A\", recorded: 2 }",
+    ),
+    (
+        BASE,
+        "info 1001; remove d; remove c",
+        "NotLive { path: \"c\" }",
+    ),
+    (
+        "info 1; protocol; meta; add a/info 2; remove a",
+        "info 3; remove a",
+        "NotLive { path: \"a\" }",
+    ),
+    (
+        APPEND_ONLY,
+        "info 1001; remove b; remove a",
+        "AppendOnly { path: \"a\" }",
+    ),
+    (APPEND_ONLY, "info 1001; keep a", ""),
+    (
+        "info 1; protocol appendOnly; meta; add a",
+        "info 2; remove a",
+        "",
+    ),
+    (
+        "info 1; protocol; meta appendOnly; add a",
+        "info 2; remove a",
+        "",
+    ),
+    (
+        "info 1; protocol; meta appendOnly; add a",
+        "info 2; protocol appendOnly; remove a",
+        "AppendOnly { path: \"a\" }",
+    ),
+    (COLUMNS, "info 1001; add a p", ""),
+    (
+        COLUMNS,
+        "info 1001; add b; add a q",
+        "Partition { path: \"a\" }",
+    ),
+    (BASE, "info 1001; add c p", "Partition { path: \"c\" }"),
+];
+
 #[test]
 fn next_commits(rt: HostRuntime) -> Result<(), Fail> {
-    let append_only = "info 1000; protocol appendOnly; meta appendOnly; add a; add b";
-    let columns = "info 1000; protocol; meta columns p";
-    let rows = [
-        (BASE, "info 1001; txn A 3; remove a; add c", ""),
-        (BASE, "info 1000; txn A 3", "TimeNotAfter 1000"),
-        (BASE, "info 999; txn A 1; remove c", "TimeNotAfter 1000"),
-        (
-            BASE,
-            "info 1001; protocol rowTracking",
-            "Feature \"rowTracking\"",
-        ),
-        (
-            BASE,
-            "info 1001; meta off",
-            "Property \"delta.enableInCommitTimestamps\"",
-        ),
-        (BASE, "info 1001; meta invariants", "Invariants"),
-        (BASE, "info 1001; meta columns p", "Columns"),
-        (BASE, "info 1001; txn A 2", "TxnNotAfter \"A\" 2"),
-        (
-            BASE,
-            "info 1001; txn B 7; txn A 1; remove c",
-            "TxnNotAfter \"A\" 2",
-        ),
-        (BASE, "info 1001; remove d; remove c", "NotLive \"c\""),
-        (
-            "info 1; protocol; meta; add a/info 2; remove a",
-            "info 3; remove a",
-            "NotLive \"a\"",
-        ),
-        (
-            append_only,
-            "info 1001; remove b; remove a",
-            "AppendOnly \"a\"",
-        ),
-        (append_only, "info 1001; keep a", ""),
-        (
-            "info 1; protocol appendOnly; meta; add a",
-            "info 2; remove a",
-            "",
-        ),
-        (
-            "info 1; protocol; meta appendOnly; add a",
-            "info 2; remove a",
-            "",
-        ),
-        (
-            "info 1; protocol; meta appendOnly; add a",
-            "info 2; protocol appendOnly; remove a",
-            "AppendOnly \"a\"",
-        ),
-        (columns, "info 1001; add a p", ""),
-        (columns, "info 1001; add b; add a q", "Partition \"a\""),
-        (BASE, "info 1001; add c p", "Partition \"c\""),
-    ];
     let alloc = rt.alloc();
-    for (log, text, wanted) in rows {
+    for (log, text, wanted) in NEXT_COMMITS {
         let result = check_next(alloc, &state(alloc, log)?, commit(alloc, text)?.as_slice());
         assert_eq!(rt; said(alloc, &result)?.as_str(), wanted, "{log} then {text}");
     }
     Ok(())
 }
 
+const BOTH: &str = "catalogManaged v2Checkpoint vacuumProtocolCheck";
+
+const ALL: &str =
+    "catalogManaged inCommitTimestamp v2Checkpoint vacuumProtocolCheck appendOnly invariants";
+
+const ONE: &str = "catalogManaged";
+
+const TWO: &str = "catalogManaged inCommitTimestamp";
+
+const MAPPED: &str = "columnMapping";
+
+const TIMESTAMP: &str = "inCommitTimestamp";
+
+/// The versions of a protocol, its features, and the faulty one.
+const PROTOCOLS: [(i64, i64, &str, &str, &str); 13] = [
+    (3, 7, BOTH, ALL, ""),
+    (3, 7, ONE, TWO, ""),
+    (2, 7, ONE, TWO, "minReaderVersion"),
+    (3, 8, ONE, TWO, "minWriterVersion"),
+    (3, 7, MAPPED, MAPPED, "columnMapping"),
+    (3, 7, TWO, TWO, "inCommitTimestamp"),
+    (3, 7, "v2Checkpoint catalogManaged", TWO, "v2Checkpoint"),
+    (
+        3,
+        7,
+        "vacuumProtocolCheck catalogManaged",
+        TWO,
+        "vacuumProtocolCheck",
+    ),
+    (3, 7, ONE, BOTH, "v2Checkpoint"),
+    (3, 7, ONE, "catalogManaged rowTracking", "rowTracking"),
+    (3, 7, ONE, TIMESTAMP, "catalogManaged"),
+    (3, 7, "", TIMESTAMP, "catalogManaged"),
+    (3, 7, ONE, ONE, "inCommitTimestamp"),
+];
+
 #[test]
 fn features(rt: HostRuntime) -> Result<(), Fail> {
-    let both = "catalogManaged v2Checkpoint vacuumProtocolCheck";
-    let all =
-        "catalogManaged inCommitTimestamp v2Checkpoint vacuumProtocolCheck appendOnly invariants";
-    let one = "catalogManaged";
-    let two = "catalogManaged inCommitTimestamp";
-    let mapped = "columnMapping";
-    let timestamp = "inCommitTimestamp";
-    let rows = [
-        (3, 7, both, all, ""),
-        (3, 7, one, two, ""),
-        (2, 7, one, two, "minReaderVersion"),
-        (3, 8, one, two, "minWriterVersion"),
-        (3, 7, mapped, mapped, "columnMapping"),
-        (3, 7, two, two, "inCommitTimestamp"),
-        (3, 7, "v2Checkpoint catalogManaged", two, "v2Checkpoint"),
-        (3, 7, one, timestamp, "catalogManaged"),
-        (3, 7, "", timestamp, "catalogManaged"),
-        (3, 7, one, one, "inCommitTimestamp"),
-    ];
     let alloc = rt.alloc();
-    for (reader, writer, readers, writers, wanted) in rows {
+    for (reader, writer, readers, writers, wanted) in PROTOCOLS {
         let protocol = protocol(alloc, (reader, writer), readers, writers)?;
         let faulty = crate::features::faulty_feature(&protocol).unwrap_or("");
         assert_eq!(rt; faulty, wanted);
