@@ -1,2 +1,5 @@
+pub mod InOrder
 pub mod Commits
+pub mod Appends
 mod Written
+mod Answering
