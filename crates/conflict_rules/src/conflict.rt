@@ -75,7 +75,8 @@ pub fn first_conflict_of<'a>(
     base: &State,
     winners: &'a [Vec<Action>],
 ) -> Option<Lowest<'a>>
-    ensures { (log : Log) → StandsFor base.now log → option_map placed result ≡ first_conflict intent.now log 0 (commits_of winners.now) }
+    ensures in_state { option_map placed result ≡ first_of (conflict_by intent.now (live_in base.now)) 0 (commits_of winners.now) }
+    ensures of_log { (log : Log) → StandsFor base.now log → option_map placed result ≡ first_conflict intent.now log 0 (commits_of winners.now) }
 {
     lowest(intent, base, winners)
 }

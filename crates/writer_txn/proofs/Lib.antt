@@ -1,1 +1,3 @@
 pub mod Lasting
+pub mod Proposals
+pub mod FirstCommits

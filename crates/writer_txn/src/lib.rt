@@ -5,6 +5,7 @@
 mod answers;
 mod creates;
 mod errors;
+mod proposing;
 mod writes;
 
 pub use answers::Written;

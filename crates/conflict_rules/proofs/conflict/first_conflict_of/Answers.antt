@@ -5,8 +5,8 @@ use Rattle.conflict_rules.specs.Conflict.{placed, conflict_by, first_of, commits
 use Rattle.conflict_rules.proofs.Views.{live_in-files}
 use Rattle.conflict_rules.proofs.conflict.first_conflict_of.Goals as goal
 
-pub returns : goal.returns
-returns c = λ log stands.
+pub returns-clause-of_log : goal.returns-clause-of_log
+returns-clause-of_log c = λ log stands.
     let P : (Key → Option Add) → Type 0 =
     λ live. option_map placed c.lowest.result ≡ first_of (conflict_by c.args.intent.now live) 0 (commits_of c.args.winners.now) in
     subst P (live_in-files c.args.base.now log stands) c.lowest.ensures

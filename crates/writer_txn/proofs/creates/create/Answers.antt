@@ -1,0 +1,73 @@
+use Rattle.std.proofs.Common.{rules, ◌≡◌, ◌<◌, ◌∙◌, ap, sym, subst, refl, arith, length, [], ℕ, ℤ, List, to_z, of_z}
+use Rattle.std.specs.Int.{w64}
+use Rattle.std.proofs.lemmas.Int.{to_z-of_z}
+use Rattle.std.specs.Prelude.{Err}
+use Rattle.staged_commit.specs.Answers.{IsComposed}
+use Rattle.staged_commit.specs.Composed.{composed_create}
+use Rattle.staged_commit.proofs.Appends.{create-time}
+use Rattle.table_model.specs.Log.{history}
+use Rattle.writer_txn.specs.Converting.{of_fault}
+use Rattle.writer_txn.specs.Creating.{CreateStands}
+use Rattle.writer_txn.specs.Refusing.{CreateRefused}
+use Rattle.writer_txn.specs.Moments.{FindsNone, WrittenNow}
+use Rattle.writer_txn.proofs.FirstCommits.{found_none, refused_stands, refused_now, is_next, is_timed, committed_now, taken_now, stopped_now}
+use Rattle.writer_txn.proofs.creates.create.Goals as goal
+
+pub returns-in_err-commit-clause-stands : goal.returns-in_err-commit-clause-stands
+returns-in_err-commit-clause-stands g c =
+    let refused : CreateRefused c.args.what.now c.next-id.result c.now_ms-now.result c.limits-limits.result.bytes c.in_err-commit.field-0.0 =
+    subst (λ (now : ℤ). CreateRefused c.args.what.now c.next-id.result now c.limits-limits.result.bytes c.in_err-commit.field-0.0)
+    (to_z-of_z w64 c.now_ms-now.result (search rules)) c.in_err-commit.ensures.err in
+    let i : CreateStands g.T.Steps.tells c.args.what.now (Err c.in_err-commit.field-0.0) (g.C.Clock.reading c.now_ms-now.new.self) (g.U.Ids.last c.next-id.new.self) (g.T.Steps.known c.commits.new.self).seen =
+    rw (c.now_ms-now.ensures.last, c.next-id.ensures.last) 
+    (refused_stands g.T.Steps.tells c.args.what.now c.next-id.result c.now_ms-now.result c.limits-limits.result.bytes (g.T.Steps.known c.commits.new.self).seen c.in_err-commit.field-0.0 refused) in
+    search rules
+
+pub returns-in_err-commit-clause-now : goal.returns-in_err-commit-clause-now
+returns-in_err-commit-clause-now g c =
+    let none : FindsNone (g.T.Steps.known c.args.caller.now) (g.T.Steps.known c.commits.new.self) =
+    found_none _ _ _ _ c.in_ok-commits.ensures.learns (omega (arith, c.if-commits-gt0.false)) in
+    let i : WrittenNow g.T.Steps.tells (Err c.in_err-commit.field-0.0) (g.T.Steps.known c.args.caller.now) (g.T.Steps.known c.commits.new.self) =
+    refused_now _ _ _ _ _ _ _ _ none (c.in_ok-commits.ensures.grows.terms ∙ c.limits-limits.ensures.terms) c.in_err-commit.ensures.err in
+    search rules
+
+pub propose-requires-clause-commit : goal.propose-requires-clause-commit
+propose-requires-clause-commit g c = λ t.
+    let none : FindsNone (g.T.Steps.known c.args.caller.now) (g.T.Steps.known c.commits.new.self) =
+    found_none _ _ _ _ c.in_ok-commits.ensures.learns (omega (arith, c.if-commits-gt0.false)) in
+    is_next _ _ _ _ _ _ (ap history none.none) c.in_ok-commit.ensures.ok
+
+pub propose-requires-clause-timed : goal.propose-requires-clause-timed
+propose-requires-clause-timed g c = λ t. is_timed _ _ _ _ _ (create-time _ _ _) c.in_ok-commit.ensures.ok
+
+pub returns-in_err-propose-clause-now : goal.returns-in_err-propose-clause-now
+returns-in_err-propose-clause-now g c =
+    let none : FindsNone (g.T.Steps.known c.args.caller.now) (g.T.Steps.known c.commits.new.self) =
+    found_none _ _ _ _ c.in_ok-commits.ensures.learns (omega (arith, c.if-commits-gt0.false)) in
+    let i : WrittenNow g.T.Steps.tells (Err (of_fault c.in_err-propose.field-0.0)) (g.T.Steps.known c.args.caller.now) (g.T.Steps.known c.propose.new.caller) =
+    stopped_now _ _ _ _ _ c.in_ok-commits.ensures.grows none.mine c.in_err-propose.ensures.proposed in
+    search rules
+
+pub returns-in_err-propose-clause-after : goal.returns-in_err-propose-clause-after
+returns-in_err-propose-clause-after g c = g.met.T.Steps.after_both _ _ _ c.in_ok-commits.ensures.after c.in_err-propose.ensures.after
+
+pub returns-in-Done-clause-now : goal.returns-in-Done-clause-now
+returns-in-Done-clause-now g c =
+    let none : FindsNone (g.T.Steps.known c.args.caller.now) (g.T.Steps.known c.commits.new.self) =
+    found_none _ _ _ _ c.in_ok-commits.ensures.learns (omega (arith, c.if-commits-gt0.false)) in
+    committed_now _ _ _ _ _ _ none (rw c.in-Done.is at c.in_ok-propose.ensures.proposed)
+
+pub returns-in-Done-clause-after : goal.returns-in-Done-clause-after
+returns-in-Done-clause-after g c = g.met.T.Steps.after_both _ _ _ c.in_ok-commits.ensures.after c.in_ok-propose.ensures.after
+
+pub returns-in-Lost-clause-after : goal.returns-in-Lost-clause-after
+returns-in-Lost-clause-after g c = g.met.T.Steps.after_both _ _ _ c.in_ok-commits.ensures.after c.in_ok-propose.ensures.after
+
+pub returns-clause-after : goal.returns-clause-after
+returns-clause-after g c = g.met.T.Steps.after_both _ _ _ c.in_ok-commits.ensures.after c.in_ok-propose.ensures.after
+
+pub returns-clause-now : goal.returns-clause-now
+returns-clause-now g c =
+    let none : FindsNone (g.T.Steps.known c.args.caller.now) (g.T.Steps.known c.commits.new.self) =
+    found_none _ _ _ _ c.in_ok-commits.ensures.learns (omega (arith, c.if-commits-gt0.false)) in
+    taken_now _ _ _ _ _ _ c.in_ok-commits.ensures.learns none (rw c.in-Taken.is at c.in_ok-propose.ensures.proposed)
