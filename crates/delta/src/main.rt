@@ -45,7 +45,10 @@ fn main(rt: HostRuntime) -> io::Result<ExitCode> {
 /// The status of a run, whose table is given up.
 fn status_of(ended: Ended<MemStore>) -> Status {
     match ended {
-        Ended::NotRun { status, store: _store } => status,
+        Ended::NotRun {
+            status,
+            store: _store,
+        } => status,
         Ended::Ran { status, world } => {
             let (_catalog, _store) = world.close();
             status

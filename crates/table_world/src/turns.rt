@@ -17,10 +17,7 @@ use std::alloc::Global;
 use table_model::{Staged, StepFault};
 
 /// The catalogue now.
-pub fn commits<S: Store>(
-    world: &mut World<S>,
-    notes: &mut Notes,
-) -> Result<Commits, StepFault>
+pub fn commits<S: Store>(world: &mut World<S>, notes: &mut Notes) -> Result<Commits, StepFault>
     requires known { IsKnownIn world.old notes.old }
     ensures { HasDone (CommitsTurn world.old result world.new) (LearnsCommits world.old.tells (known_of world.old notes.old) result (known_of world.new notes.new)) world.old notes.old world.new notes.new }
 {
