@@ -1,5 +1,6 @@
 use super::*;
 use object_store::{Fail, MemStore, Store};
+use publisher::drain;
 use snapshot_load::load;
 use std::alloc::Global;
 use std::test::Fail as Stop;
@@ -234,5 +235,18 @@ fn the_caller_makes_its_own_turns(rt: HostRuntime) -> Result<(), Stop> {
     let answer = own_turns(&mut caller, alloc);
     assert_eq!(rt; end(caller), (0, 0));
     assert_eq!(rt; answer?, (Staged::Done, Staged::Taken, 1, true));
+    Ok(())
+}
+
+// The caller publishes, reports and clears both versions, while another publishes the first before the fourth turn.
+#[test]
+fn a_drain_goes_on_beside_another_publisher(rt: HostRuntime) -> Result<(), Stop> {
+    let alloc = rt.alloc();
+    let mut turns = two_versions(alloc)?;
+    turns.push(publish(alloc, 4, 0, CREATE)?)?;
+    let mut caller = among(alloc, turns, Vec::new(alloc)).ok_or("the world starts")?;
+    let drained = drain(&mut caller, alloc);
+    assert_eq!(rt; end(caller), (2, 2));
+    assert!(rt; drained.is_ok());
     Ok(())
 }
