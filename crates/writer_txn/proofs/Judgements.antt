@@ -255,3 +255,11 @@ applied_none state log h = subst (StandsFor state) (sym (append-nil log)) h
 
 pub applied_all : (state : State) (log : Log) (cs : List (Vec Action Global)) (i : ℕ) → length cs ≤ i → StandsFor state (log ++ commits_of (take i cs)) → StandsFor state (log ++ commits_of cs)
 applied_all state log cs i all h = subst (λ (l : List (Vec Action Global)). StandsFor state (log ++ commits_of l)) (take_all i cs all) h
+
+-- the place is that of a winner
+pub place_within : (conflict : List Action → Option Said) (ws : List (Vec Action Global)) (p : ℕ × Said) → first_of conflict 0 (commits_of ws) ≡ Some p → p.0 < length ws
+place_within conflict ws p e =
+    let b = first_of_within conflict 0 (commits_of ws) p e in
+    let high = b.1 in
+    let same : length (commits_of ws) ≡ length ws = length-map ws _ in
+    omega (arith, high, same)

@@ -4,3 +4,4 @@ pub mod FirstCommits
 pub mod Judgements
 pub mod Underway
 pub mod Beginnings
+pub mod Catching
