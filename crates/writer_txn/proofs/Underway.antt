@@ -344,3 +344,16 @@ contended_now base tried attempts limits tells f k m h terms all = record {
   count = h.underway.count ∙ all;
   rising = h.underway.rising;
 }
+
+-- the front of an attempt has the base of the write
+pub next_attempt : (base tried : ℕ) (f : Front) (k m : Knowledge) → GoesOn base tried f k m → IsUnderway f.base tried k m
+next_attempt base tried f k m h = subst (λ (b : ℕ). IsUnderway b tried k m) (sym h.base_is) h.underway
+
+pub same_base : (base tried : ℕ) (f g : Front) (k m : Knowledge) → f.base ≡ base → GoesOn f.base tried g k m → GoesOn base tried g k m
+same_base base tried f g k m e h = subst (λ (b : ℕ). GoesOn b tried g k m) e h
+
+pub first_attempt : (f : Front) (k m : Knowledge) → f.latest + 1 ≡ length m.seen → IsUnderway f.base 0 k m → GoesOn f.base 0 f k m
+first_attempt f k m newest u = record { base_is = refl; newest = newest; underway = u }
+
+pub front_number : (tells : Bool) (intent : Intent) (f : Front) (log : List Commit) → IsFrontOf tells intent f log → IsNewerAt tells intent f.latest log
+front_number tells intent f log h = record { ratified = h.within; number = h.number }
