@@ -22,7 +22,7 @@ use Rattle.writer_txn.specs.Converting.{of_load}
 use Rattle.writer_txn.specs.Fronts.{before, IsNewer}
 use Rattle.writer_txn.specs.Writing.{IsNewerAt, IsNameOfWrite}
 use Rattle.writer_txn.specs.Proposing.{IsRefusedFull, staged_noted}
-use Rattle.writer_txn.specs.Judging.{JudgedFrom, CaughtNow, LeavesOwn}
+use Rattle.writer_txn.specs.Judging.{JudgedFrom, CaughtNow, LeavesOwn, GoesFrom}
 use Rattle.writer_txn.specs.Trying.{IsFrontOf}
 use Rattle.writer_txn.proofs.Lasting.{front_kept, below_longer, clash_longer}
 
@@ -103,3 +103,9 @@ name_stands tells intent f id k m h seen =
 pub within_limit : (terms : Option Terms) (limits : Limits) (tells : Bool) (n : ℕ) → terms ≡ Some (record { limits = limits; tells = tells })
     → IfSome terms (λ t. n ≤ t.limits.versions) → n ≤ limits.versions
 within_limit terms limits tells n e h = subst (λ (o : Option Terms). IfSome o (λ t. n ≤ t.limits.versions)) e h
+
+-- where it goes on, it goes on from there
+pub goes_on : (tells : Bool) (base : ℕ) (r : Result Outcome WriteError) (k m : Knowledge) → CaughtNow tells base r k m → GoesFrom base r m
+goes_on tells base (Ok (outcome.Answered answer)) k m h = tt
+goes_on tells base (Ok (outcome.Lost front)) k m h = h
+goes_on tells base (Err e) k m h = tt

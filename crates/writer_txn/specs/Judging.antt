@@ -70,3 +70,9 @@ CaughtNow tells base (Err (failed.TooLarge b bytes)) k m = ⊥
 CaughtNow tells base (Err (failed.Taken b version id)) k m = ⊥
 CaughtNow tells base (Err (failed.Fault at)) k m = FaultCause tells at k m
 CaughtNow tells base (Err failed.Memory) k m = ⊤
+
+-- an attempt that goes on has the same base, and has taken in all that is seen
+abbrev pub GoesFrom : ℕ → Result Outcome WriteError → Knowledge → Type 0
+GoesFrom base (Ok (outcome.Answered answer)) m = ⊤
+GoesFrom base (Ok (outcome.Lost front)) m = NamesSeen base front.base front.latest m
+GoesFrom base (Err e) m = ⊤

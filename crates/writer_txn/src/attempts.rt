@@ -7,7 +7,7 @@ ghost use Rattle.staged_commit.specs.Composed.{IsAppend};
 ghost use Rattle.table_model.specs.Log.{Commit};
 ghost use Rattle.table_model.specs.Knowledge.{Knowledge, IsGrown, IsValid};
 ghost use Rattle.snapshot_load.specs.Snapshots.{AreWinners};
-ghost use Rattle.writer_txn.specs.Judging.{IsReached, JudgedFrom, CaughtNow, LeavesOwn};
+ghost use Rattle.writer_txn.specs.Judging.{IsReached, JudgedFrom, CaughtNow, LeavesOwn, GoesFrom};
 ghost use Rattle.writer_txn.specs.Refusing.{of_compose};
 ghost use Rattle.writer_txn.specs.Trying.{IsFrontOf, IsUnderway, AttemptStands, AttemptNow};
 
@@ -167,6 +167,7 @@ pub(crate) fn attempt<T: Steps, C: Clock, U: Ids>(
     requires newest { front.latest + 1 ≡ length (T.known caller.old).seen }
     ensures stands { AttemptStands T.tells what.now result (C.reading clock.new) (U.last ids.new) (T.known caller.new).seen }
     ensures now { (k : Knowledge) (tried : ℕ) → IsUnderway front.base tried k (T.known caller.old) → AttemptNow T.tells front.base tried result k (T.known caller.new) }
+    ensures goes { GoesFrom front.base result (T.known caller.new) }
     ensures steady { IsTrue C.fixed → C.reading clock.new ≡ C.reading clock.old }
     ensures grows { IsGrown (T.known caller.old) (T.known caller.new) }
     ensures valid { IsValid (T.known caller.new) }

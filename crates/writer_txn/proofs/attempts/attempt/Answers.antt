@@ -9,9 +9,10 @@ use Rattle.writer_txn.specs.Converting.{of_fault}
 use Rattle.writer_txn.specs.Refusing.{of_compose}
 use Rattle.writer_txn.specs.Moments.{WrittenNow}
 use Rattle.writer_txn.specs.Writing.{WriteStands, IsLaterCommit, IsNameOfWrite}
+use Rattle.writer_txn.specs.Judging.{GoesFrom}
 use Rattle.writer_txn.specs.Trying.{AttemptStands, AttemptNow}
 use Rattle.writer_txn.proofs.Underway.{refused_write, refused_write_now, append_next, append_timed, room_for, written_stands, written_now, full_now, name_taken, attempt_stopped, caught_attempt}
-use Rattle.writer_txn.proofs.Catching.{front_longer, full_stands, name_stands, within_limit}
+use Rattle.writer_txn.proofs.Catching.{goes_on, front_longer, full_stands, name_stands, within_limit}
 use Rattle.writer_txn.proofs.attempts.attempt.Goals as goal
 
 pub returns-in-Err-clause-stands : goal.returns-in-Err-clause-stands
@@ -90,8 +91,16 @@ returns-in-Lost-clause-after g c = g.met.T.Steps.after_both _ _ _ c.in_ok-propos
 pub returns-in-Taken-clause-stands : goal.returns-in-Taken-clause-stands
 returns-in-Taken-clause-stands g c =
     let seen = ap (λ (x : Knowledge). x.seen) (rw c.in-Taken.is at c.in_ok-propose.ensures.proposed) in
-    rw c.next-id.ensures.last (name_stands g.T.Steps.tells c.args.what.now c.args.front c.next-id.result _ _ c.requires.front seen)
+    rw c.next-id.ensures.last (name_stands g.T.Steps.tells c.args.what.now c.args.front c.next-id.result (g.T.Steps.known c.args.caller.now) (g.T.Steps.known c.propose.new.caller) c.requires.front seen)
 
 pub returns-in-Taken-clause-now : goal.returns-in-Taken-clause-now
 returns-in-Taken-clause-now g c = λ k tried u.
     name_taken _ tried _ _ k _ _ u c.in_ok-propose.ensures.grows c.requires.newest (rw c.in-Taken.is at c.in_ok-propose.ensures.proposed)
+
+pub returns-in-Lost-clause-goes : goal.returns-in-Lost-clause-goes
+returns-in-Lost-clause-goes g c = goes_on _ _ _ _ _ c.caught_up.ensures.caught
+
+pub returns-in_err-propose-clause-goes : goal.returns-in_err-propose-clause-goes
+returns-in_err-propose-clause-goes g c =
+    let i : GoesFrom c.args.front.base (Err (of_fault c.in_err-propose.field-0.0)) (g.T.Steps.known c.propose.new.caller) = tt in
+    search rules
