@@ -77,7 +77,7 @@ newer_longer tells intent version log longer s h = record {
   number = λ t. (let P : List Commit → Type 0 = λ l. IsNewer intent (history l) in subst P (sym (front_kept log longer (version + 1) s (let r = h.ratified in omega (arith, r)))) (h.number t));
 }
 
-clash_longer : (intent : Intent) (base n : ℕ) (log longer : List Commit) → StartsWith longer log → base + 1 ≤ length log → n ≤ length log
+pub clash_longer : (intent : Intent) (base n : ℕ) (log longer : List Commit) → StartsWith longer log → base + 1 ≤ length log → n ≤ length log
     → first_clash intent base n longer ≡ first_clash intent base n log
 clash_longer intent base n log longer s from to =
     ap (λ (l : List Commit). first_conflict intent (history l) (base + 1) (above base n longer)) (front_kept log longer (base + 1) s from)
@@ -158,9 +158,12 @@ long_longer tells intent base bytes reading last log longer s h =
       version = h.version;
       from = h.from;
       within = omega (arith, w, more);
-      time = h.time;
-      next = λ t. ap (λ (l : List Commit). next_time (time_of_log (history l)) reading) (front_kept log longer h.version s w) ∙ h.next t;
-      bytes_are = h.bytes_are;
+      text = λ t.
+          (let p = h.text t in record {
+            time = p.time;
+            next = ap (λ (l : List Commit). next_time (time_of_log (history l)) reading) (front_kept log longer h.version s w) ∙ p.next;
+            bytes_are = p.bytes_are;
+          });
     }
 
 name_longer : (tells : Bool) (intent : Intent) (base version id last : ℕ) (log longer : List Commit) → StartsWith longer log

@@ -1,3 +1,7 @@
 pub mod Lasting
 pub mod Proposals
 pub mod FirstCommits
+pub mod Judgements
+pub mod Underway
+pub mod Beginnings
+pub mod Catching

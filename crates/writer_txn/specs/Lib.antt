@@ -5,3 +5,5 @@ pub mod Writing
 pub mod Moments
 pub mod Refusing
 pub mod Proposing
+pub mod Trying
+pub mod Judging

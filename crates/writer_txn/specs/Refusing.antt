@@ -1,6 +1,8 @@
 -- Why a create or an append was not composed.
-use Rattle.std.specs.Prelude.{ℕ, ℤ, ◌<◌, Option, ⊤}
+use Rattle.std.specs.Prelude.{ℕ, ℤ, ◌<◌, Option, Some, ⊤}
 use Rattle.staged_commit.specs.declared.create.Create.{Create}
+use Rattle.staged_commit.specs.declared.fault.ComposeError.{ComposeError}
+use Rattle.staged_commit.specs.declared.fault.ComposeError.TheVariants as fault
 use Rattle.writer_txn.specs.Creating.{IsBrokenCreate, IsLongCreate}
 use Rattle.writer_txn.specs.declared.errors.WriteError.{WriteError}
 use Rattle.writer_txn.specs.declared.errors.WriteError.TheVariants as failed
@@ -22,3 +24,10 @@ CreateRefused create id now limit (failed.TooLarge base bytes) = IsOverLimit cre
 CreateRefused create id now limit (failed.Taken base version taken) = ⊥
 CreateRefused create id now limit (failed.Fault at) = ⊥
 CreateRefused create id now limit failed.Memory = ⊤
+
+-- why an append was not composed, as the error of a write
+abbrev pub of_compose : ℕ → ComposeError → WriteError
+of_compose base (fault.Broken why) = failed.Broken (Some base) why
+of_compose base (fault.TimeEnd last) = failed.TimeEnd base last
+of_compose base (fault.TooLarge bytes) = failed.TooLarge (Some base) bytes
+of_compose base fault.Memory = failed.Memory

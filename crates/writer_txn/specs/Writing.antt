@@ -61,15 +61,19 @@ pub record IsEndOfTime (tells : Bool) (intent : Intent) (base : ℕ) (end : ℤ)
   pub within : version ≤ length log
   pub time : IsTrue tells → time_of_log (before version log) ≡ Some end
 
--- the text of the composed commit of some version above the base has so many bytes, at its next time by the last reading
+-- the text of the commit that is composed for a version, at its next time by the last reading, has so many bytes
+pub record HasLength (intent : Intent) (version bytes : ℕ) (reading : ℤ) (last : ℕ) (log : List Commit) : Type 0 where
+  pub time : ℤ
+  pub next : next_time (time_of_log (before version log)) reading ≡ Some time
+  pub bytes_are : bytes ≡ length (canonical_text (composed_append intent last time))
+
+-- that is so of some version above the base
 pub record IsLongWrite (tells : Bool) (intent : Intent) (base bytes : ℕ) (reading : ℤ) (last : ℕ) (log : List Commit) : Type 0 where
   pub newer : IsNewerAt tells intent base log
   pub version : ℕ
   pub from : base < version
   pub within : version ≤ length log
-  pub time : ℤ
-  pub next : IsTrue tells → next_time (time_of_log (before version log)) reading ≡ Some time
-  pub bytes_are : IsTrue tells → bytes ≡ length (canonical_text (composed_append intent last time))
+  pub text : IsTrue tells → HasLength intent version bytes reading last log
 
 -- the name is that of a version above the base under the last id
 pub record IsNameOfWrite (tells : Bool) (intent : Intent) (base version id last : ℕ) (log : List Commit) : Type 0 where

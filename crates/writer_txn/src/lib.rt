@@ -3,6 +3,7 @@
 #![tactic(auto)]
 
 mod answers;
+mod attempts;
 mod creates;
 mod errors;
 mod proposing;

@@ -1,0 +1,53 @@
+use Rattle.std.proofs.Common.{rules, arith, ◌≡◌, ◌∙◌, ◌+◌, refl, ℕ}
+use Rattle.std.specs.Prelude.{Err}
+use Rattle.table_model.specs.Knowledge.{Knowledge}
+use Rattle.table_model.proofs.Growing.{grows_refl, grows_trans}
+use Rattle.writer_txn.specs.Moments.{WrittenNow}
+use Rattle.writer_txn.specs.Writing.{WriteStands}
+use Rattle.writer_txn.specs.Trying.{GoesOn}
+use Rattle.writer_txn.proofs.Underway.{next_attempt, same_base, first_attempt, contended_now, front_number}
+use Rattle.writer_txn.proofs.writes.attempts.Goals as goal
+
+pub loop-tried-init : goal.loop-tried-init
+loop-tried-init g c = record {
+  front = c.requires.front;
+  newest = c.requires.newest;
+  base = refl;
+  underway = λ k u. first_attempt _ _ _ c.requires.newest u;
+  steady = λ t. refl;
+  grows = grows_refl _;
+  valid = c.requires.valid;
+  after = g.met.T.Steps.after_same _;
+}
+
+pub loop-tried-preserved : goal.loop-tried-preserved
+loop-tried-preserved g c =
+    let next = rw c.in-Lost.is at c.in_ok-written.ensures.goes in
+    record {
+      front = rw c.in-Lost.is at c.in_ok-written.ensures.stands;
+      newest = next.newest;
+      base = next.base_is ∙ c.loop-tried.invariant.base;
+      underway = λ k u.
+          (let now = c.in_ok-written.ensures.now k c.loop-tried.tried (next_attempt c.args.front.base c.loop-tried.tried c.loop-tried.front k (g.T.Steps.known c.loop-tried.caller) (c.loop-tried.invariant.underway k u)) in
+          same_base c.args.front.base (c.loop-tried.tried + 1) c.loop-tried.front c.in-Lost.next k (g.T.Steps.known c.attempt.new.caller) c.loop-tried.invariant.base (rw c.in-Lost.is at now));
+      steady = λ t. c.in_ok-written.ensures.steady t ∙ c.loop-tried.invariant.steady t;
+      grows = grows_trans _ _ _ c.loop-tried.invariant.grows c.in_ok-written.ensures.grows;
+      valid = c.in_ok-written.ensures.valid;
+      after = g.met.T.Steps.after_both _ _ _ c.loop-tried.invariant.after c.in_ok-written.ensures.after;
+    }
+
+pub returns-in_err-written-clause-now : goal.returns-in_err-written-clause-now
+returns-in_err-written-clause-now g c = λ k u.
+    let i : WrittenNow g.T.Steps.tells (Err c.in_err-written.field-0.0) k (g.T.Steps.known c.attempt.new.caller) =
+    c.in_err-written.ensures.now k c.loop-tried.tried (next_attempt c.args.front.base c.loop-tried.tried c.loop-tried.front k (g.T.Steps.known c.loop-tried.caller) (c.loop-tried.invariant.underway k u)) in
+    search rules
+
+pub returns-in-Answered-clause-now : goal.returns-in-Answered-clause-now
+returns-in-Answered-clause-now g c = λ k u.
+    let now = c.in_ok-written.ensures.now k c.loop-tried.tried (next_attempt c.args.front.base c.loop-tried.tried c.loop-tried.front k (g.T.Steps.known c.loop-tried.caller) (c.loop-tried.invariant.underway k u)) in
+    rw c.in-Answered.is at now
+
+pub returns-clause-now : goal.returns-clause-now
+returns-clause-now g c = λ k u.
+    contended_now c.args.front.base c.loop-tried.tried c.args.limits.attempts c.args.limits g.T.Steps.tells c.loop-tried.front k (g.T.Steps.known c.loop-tried.caller)
+    (c.loop-tried.invariant.underway k u) (c.loop-tried.invariant.grows.terms ∙ c.requires.terms) (omega (arith, c.loop-tried-test.false, c.loop-tried.auto.tried-end))

@@ -1,0 +1,16 @@
+use Rattle.std.proofs.Common.{◌≡◌, ◌+◌, length, IsTrue}
+use Rattle.table_model.specs.Knowledge.{Knowledge, IsGrown, IsValid}
+use Rattle.writer_txn.specs.Trying.{IsFrontOf, IsUnderway, GoesOn}
+use Rattle.writer_txn.proofs.writes.attempts.Given as goal
+
+abbrev pub invariant-loop-tried : goal.invariant-loop-tried
+invariant-loop-tried g l = record {
+  front : IsFrontOf g.T.Steps.tells l.what l.front (g.T.Steps.known l.caller).seen;
+  newest : l.front.latest + 1 ≡ length (g.T.Steps.known l.caller).seen;
+  base : l.front.base ≡ l.fn.front.base;
+  underway : (k : Knowledge) → IsUnderway l.fn.front.base 0 k (g.T.Steps.known l.fn.caller) → GoesOn l.fn.front.base l.tried l.front k (g.T.Steps.known l.caller);
+  steady : IsTrue g.C.Clock.fixed → g.C.Clock.reading l.clock ≡ g.C.Clock.reading l.fn.clock;
+  grows : IsGrown (g.T.Steps.known l.fn.caller) (g.T.Steps.known l.caller);
+  valid : IsValid (g.T.Steps.known l.caller);
+  after : g.T.Steps.after l.fn.caller l.caller;
+}
