@@ -1,5 +1,5 @@
 //! What the replies of a session say together.
-ghost use Rattle.std.specs.Prelude.{Bool, ℕ, List};
+ghost use Rattle.std.specs.Prelude.{◌≡◌, Bool, ℕ, ℤ, List};
 ghost use Rattle.lake_io.specs.declared.answers.End.{End};
 ghost use Rattle.table_model.specs.Log.{Commit};
 ghost use Rattle.table_model.specs.Knowledge.{Knowledge, StartsWith};
@@ -8,6 +8,11 @@ ghost use Rattle.table_session.specs.Running.{Run};
 ghost use Rattle.table_session.specs.Told.{Told};
 ghost use Rattle.table_session.specs.Over.{IsWhole, ToldOver};
 ghost use Rattle.table_session.specs.Sessions.{Session};
+ghost use Rattle.reconcile.specs.declared.state.State.{State};
+ghost use Rattle.reconcile.specs.Replay.{Log};
+ghost use Rattle.reconcile.specs.Standing.{StandsFor};
+ghost use Rattle.session_lines.specs.declared.reply.Reply.TheVariants as reply;
+ghost use Rattle.session_lines.specs.Replies.{reply_text_of};
 
 /// Replies that are each right at their moment are right together.
 pub fn replies_are_right_together()
@@ -22,4 +27,9 @@ pub fn replies_are_right_of_the_log()
 /// At most one reply of a session was not written whole, and the version that it names is above all that was written.
 pub fn one_reply_at_most_is_not_written()
     ensures { (tells : Bool) (read wrote : List ℕ) (k m : Knowledge) (ended : End) → (s : Session tells read wrote k m ended) → IsWhole s.moments s.said s.unsaid }
+{}
+
+/// The text of a Loaded reply is that of the commits: whatever state stands for them gives the same.
+pub fn loaded_replies_of_a_log_have_one_text()
+    ensures { (s t : State) (log : Log) (latest : ℕ) (time : ℤ) (version : ℕ) → StandsFor s log → StandsFor t log → reply_text_of (reply.Loaded latest s time version) ≡ reply_text_of (reply.Loaded latest t time version) }
 {}

@@ -9,6 +9,7 @@ mod speaking;
 mod talking;
 
 pub use laws::{
-    one_reply_at_most_is_not_written, replies_are_right_of_the_log, replies_are_right_together,
+    loaded_replies_of_a_log_have_one_text, one_reply_at_most_is_not_written,
+    replies_are_right_of_the_log, replies_are_right_together,
 };
 pub use talking::session;
