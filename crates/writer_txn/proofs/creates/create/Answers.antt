@@ -1,9 +1,7 @@
-use Rattle.std.proofs.Common.{rules, ◌≡◌, ◌<◌, ◌∙◌, ap, sym, subst, refl, arith, length, [], ℕ, ℤ, List, to_z, of_z}
+use Rattle.std.proofs.Common.{rules, ◌∙◌, ap, subst, arith, ℤ}
 use Rattle.std.specs.Int.{w64}
 use Rattle.std.proofs.lemmas.Int.{to_z-of_z}
 use Rattle.std.specs.Prelude.{Err}
-use Rattle.staged_commit.specs.Answers.{IsComposed}
-use Rattle.staged_commit.specs.Composed.{composed_create}
 use Rattle.staged_commit.proofs.Appends.{create-time}
 use Rattle.table_model.specs.Log.{history}
 use Rattle.writer_txn.specs.Converting.{of_fault}
@@ -19,7 +17,7 @@ returns-in_err-commit-clause-stands g c =
     subst (λ (now : ℤ). CreateRefused c.args.what.now c.next-id.result now c.limits-limits.result.bytes c.in_err-commit.field-0.0)
     (to_z-of_z w64 c.now_ms-now.result (search rules)) c.in_err-commit.ensures.err in
     let i : CreateStands g.T.Steps.tells c.args.what.now (Err c.in_err-commit.field-0.0) (g.C.Clock.reading c.now_ms-now.new.self) (g.U.Ids.last c.next-id.new.self) (g.T.Steps.known c.commits.new.self).seen =
-    rw (c.now_ms-now.ensures.last, c.next-id.ensures.last) 
+    rw (c.now_ms-now.ensures.last, c.next-id.ensures.last)
     (refused_stands g.T.Steps.tells c.args.what.now c.next-id.result c.now_ms-now.result c.limits-limits.result.bytes (g.T.Steps.known c.commits.new.self).seen c.in_err-commit.field-0.0 refused) in
     search rules
 
