@@ -1,9 +1,8 @@
 -- A write begins with a load.
-use Rattle.std.proofs.Common.{◌≡◌, ◌<◌, ◌≤◌, ◌+◌, ◌<ℤ◌, ℕ, ℤ, Bool, IsTrue, List, [], ◌∷◌, ◌++◌, length, take, drop, refl, sym, ◌∙◌, ap, subst, arith, append-nil}
-use Rattle.std.specs.Prelude.{Option, Some, None, IfSome, Result, Ok, Err}
+use Rattle.std.proofs.Common.{◌≡◌, ◌<◌, ◌≤◌, ◌+◌, ◌<ℤ◌, ℕ, ℤ, Bool, IsTrue, List, [], length, take, drop, refl, sym, ◌∙◌, ap, subst, arith, append-nil}
+use Rattle.std.specs.Prelude.{IfSome, Err}
 use Rattle.std.proofs.lemmas.List.{nil_from_length, length-drop, length-take-le}
 use Rattle.std.proofs.lemmas.List.Elements.{All-nil}
-use Rattle.reconcile.specs.declared.State.{State}
 use Rattle.reconcile.specs.Replay.{Log}
 use Rattle.reconcile.specs.Standing.{StandsFor}
 use Rattle.table_rules.specs.Seen.{number_in}
@@ -17,12 +16,10 @@ use Rattle.snapshot_load.specs.declared.errors.LoadError.TheVariants as load
 use Rattle.snapshot_load.specs.Snapshots.{IsSnapshot}
 use Rattle.snapshot_load.specs.Reading.{OnlyLoads, HasAsked}
 use Rattle.snapshot_load.specs.Causes.{LoadCause, UnlessMemory}
-use Rattle.writer_txn.specs.declared.attempts.Front.{Front}
-use Rattle.writer_txn.specs.declared.errors.WriteError.{WriteError}
 use Rattle.writer_txn.specs.Converting.{of_load}
 use Rattle.writer_txn.specs.Fronts.{before, above}
 use Rattle.writer_txn.specs.Writing.{WriteStands, IsAlready}
-use Rattle.writer_txn.specs.Moments.{WrittenNow, NamesLatest}
+use Rattle.writer_txn.specs.Moments.{WrittenNow}
 use Rattle.writer_txn.specs.Judging.{IsAtOrAbove}
 use Rattle.writer_txn.specs.Trying.{IsFrontOf, IsUnderway}
 use Rattle.writer_txn.proofs.Lasting.{length_kept}

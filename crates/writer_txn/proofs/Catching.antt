@@ -1,10 +1,10 @@
 -- A write takes in the commits that were ratified since.
-use Rattle.std.proofs.Common.{◌≡◌, ◌<◌, ◌≤◌, ◌+◌, ℕ, ℤ, Bool, IsTrue, List, length, take, refl, sym, ◌∙◌, ap, subst, arith}
-use Rattle.std.specs.Prelude.{Option, Some, None, Result, Ok, Err}
+use Rattle.std.proofs.Common.{◌≡◌, ◌≤◌, ◌+◌, ℕ, Bool, List, length, take, refl, sym, ◌∙◌, ap, subst, arith}
+use Rattle.std.specs.Prelude.{Option, Some, Result, Ok, Err}
 use Rattle.reconcile.specs.Standing.{StandsFor}
 use Rattle.conflict_rules.specs.declared.intent.Intent.{Intent}
 use Rattle.table_model.specs.Log.{Commit, history}
-use Rattle.table_model.specs.Knowledge.{Knowledge, StartsWith, IsValid}
+use Rattle.table_model.specs.Knowledge.{Knowledge, StartsWith}
 use Rattle.commit_catalog.specs.declared.Limits.{Limits}
 use Rattle.table_model.specs.Knowledge.{Terms}
 use Rattle.std.specs.Prelude.{IfSome}
@@ -19,9 +19,9 @@ use Rattle.writer_txn.specs.declared.answers.Written.TheVariants as written
 use Rattle.writer_txn.specs.declared.errors.WriteError.{WriteError}
 use Rattle.writer_txn.specs.declared.errors.WriteError.TheVariants as failed
 use Rattle.writer_txn.specs.Converting.{of_load}
-use Rattle.writer_txn.specs.Fronts.{before, IsNewer}
+use Rattle.writer_txn.specs.Fronts.{IsNewer}
 use Rattle.writer_txn.specs.Writing.{IsNewerAt, IsNameOfWrite}
-use Rattle.writer_txn.specs.Proposing.{IsRefusedFull, staged_noted}
+use Rattle.writer_txn.specs.Proposing.{IsRefusedFull}
 use Rattle.writer_txn.specs.Judging.{JudgedFrom, CaughtNow, LeavesOwn, GoesFrom}
 use Rattle.writer_txn.specs.Trying.{IsFrontOf}
 use Rattle.writer_txn.proofs.Lasting.{front_kept, below_longer, clash_longer}

@@ -1,6 +1,6 @@
 -- The making of a table: what is known after its catalogue turn, and after its commit was proposed.
-use Rattle.std.proofs.Common.{◌≡◌, ◌<◌, ◌≤◌, ◌+◌, ◌-◌, inl, inr, ℕ, ℤ, pos, Bool, IsTrue, List, [], ◌∷◌, ◌++◌, length, refl, sym, ◌∙◌, ap, subst, arith, length-append, append-nil}
-use Rattle.std.specs.Prelude.{Contains, IfSome, Option, Some, None, Result, Ok, Err, MatchResult, unwrap_or}
+use Rattle.std.proofs.Common.{◌≡◌, ◌<◌, ◌≤◌, ◌+◌, ◌-◌, inl, ℕ, ℤ, pos, Bool, List, [], ◌∷◌, ◌++◌, length, refl, sym, ◌∙◌, ap, subst, arith, length-append, append-nil}
+use Rattle.std.specs.Prelude.{IfSome, Option, Some, None, Result, Ok, Err, MatchResult, unwrap_or}
 use Rattle.std.proofs.lemmas.List.{nil_from_length}
 use Rattle.log_names.specs.declared.LogName.TheVariants as name
 use Rattle.commit_catalog.specs.declared.Commits.{Commits}
@@ -18,7 +18,7 @@ use Rattle.staged_commit.specs.Answers.{IsComposed}
 use Rattle.table_model.specs.declared.answers.StepFault.{StepFault}
 use Rattle.table_model.specs.declared.answers.StepFault.TheVariants as step
 use Rattle.table_model.specs.Log.{Commit, commit_at, commit_time, history, IsNextCommit}
-use Rattle.table_model.specs.Knowledge.{Knowledge, Terms, StartsWith, IsGrown}
+use Rattle.table_model.specs.Knowledge.{Knowledge, Terms, IsGrown}
 use Rattle.table_model.specs.Learning.{CommitsLearnt}
 use Rattle.snapshot_load.proofs.Causing.{failed_later}
 use Rattle.writer_txn.specs.declared.errors.WriteError.{WriteError}
@@ -26,8 +26,8 @@ use Rattle.writer_txn.specs.declared.errors.WriteError.TheVariants as failed
 use Rattle.writer_txn.specs.Converting.{of_fault}
 use Rattle.writer_txn.specs.Creating.{CreateStands, IsFirstCommit}
 use Rattle.writer_txn.specs.Refusing.{CreateRefused}
-use Rattle.writer_txn.specs.Moments.{IsFront, IsCommitted, NamesLatest, FindsNone, StopsAt, IsTooLarge, IsTaken, HasFailed, WrittenNow}
-use Rattle.writer_txn.specs.Proposing.{IsRatified, HasLost, IsRefusedFull, HasStopped, StepCause}
+use Rattle.writer_txn.specs.Moments.{IsFront, IsCommitted, NamesLatest, FindsNone, StopsAt, IsTaken, WrittenNow}
+use Rattle.writer_txn.specs.Proposing.{IsRatified, HasLost, IsRefusedFull, HasStopped}
 
 -- what was told and seen is within the log of the catalogue turn
 asked_front : (tells : Bool) (c : Commits) (k m : Knowledge) → CommitsLearnt tells k c m → IsFront (length m.seen) k m

@@ -1,6 +1,6 @@
 -- An append is judged by the commits that were ratified since it took the table in.
-use Rattle.std.proofs.Common.{◌≡◌, ◌<◌, ◌≤◌, ◌+◌, ◌<ℤ◌, ℕ, ℤ, Bool, true, false, IsTrue, List, [], ◌∷◌, ◌++◌, length, take, drop, refl, sym, ◌∙◌, ap, subst, arith, length-append, append_assoc, append-nil, get_or}
-use Rattle.std.specs.Prelude.{Option, Some, None, option_map, map, IfSome, Vec}
+use Rattle.std.proofs.Common.{◌≡◌, ◌<◌, ◌≤◌, ◌+◌, ◌<ℤ◌, ℕ, ℤ, Bool, IsTrue, List, [], ◌∷◌, ◌++◌, length, take, drop, refl, sym, ◌∙◌, ap, subst, arith, append_assoc, append-nil, get_or}
+use Rattle.std.specs.Prelude.{Option, Some, None, option_map, IfSome, Vec}
 use Rattle.std.specs.declared.alloc.Global.{Global}
 use Rattle.std.specs.List.{filter_map}
 use Rattle.std.proofs.lemmas.List.{take-append-drop, take-append-le, drop-append-le, length-take-le, length-drop, length-map, map-append, take_all, take_more}
@@ -27,7 +27,7 @@ use Rattle.snapshot_load.specs.declared.answers.Winners.{Winners}
 use Rattle.snapshot_load.specs.Snapshots.{AreWinners}
 use Rattle.writer_txn.specs.declared.attempts.Front.{Front}
 use Rattle.writer_txn.specs.Fronts.{before, above, first_clash, IsNewer}
-use Rattle.writer_txn.specs.Writing.{IsAlready, IsConflict, IsNewerAt}
+use Rattle.writer_txn.specs.Writing.{IsAlready, IsConflict}
 use Rattle.writer_txn.specs.Judging.{IsAtOrAbove}
 use Rattle.writer_txn.specs.Trying.{IsFrontOf}
 

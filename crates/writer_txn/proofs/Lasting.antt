@@ -1,9 +1,9 @@
 -- What stands of a log stands in every longer log.
-use Rattle.std.proofs.Common.{◌≡◌, ◌<◌, ◌≤◌, ◌+◌, ℕ, ℤ, Bool, IsTrue, List, [], ◌++◌, length, take, drop, refl, sym, ◌∙◌, ap, subst, arith, length-append}
+use Rattle.std.proofs.Common.{◌≡◌, ◌<◌, ◌≤◌, ◌+◌, ℕ, ℤ, Bool, List, length, take, drop, sym, ◌∙◌, ap, subst, arith, length-append}
 use Rattle.std.specs.Prelude.{Option, Some, None, Result, Ok, Err}
 use Rattle.std.proofs.lemmas.List.{take-append-le}
 use Rattle.std.proofs.Math.ListN.{get_or-append}
-use Rattle.reconcile.specs.Replay.{Log, time_of_log}
+use Rattle.reconcile.specs.Replay.{time_of_log}
 use Rattle.table_rules.specs.Broken.{number_at}
 use Rattle.conflict_rules.specs.declared.intent.Intent.{Intent}
 use Rattle.conflict_rules.specs.declared.clash.Rule.{Rule}

@@ -1,20 +1,18 @@
 -- A commit is staged for the next version and handed to the catalogue.
-use Rattle.std.proofs.Common.{◌≡◌, ◌<◌, ◌≤◌, ◌+◌, ◌⊎◌, inl, inr, ℕ, ℤ, Bool, true, IsTrue, cond, List, [], ◌∷◌, ◌++◌, length, take, refl, sym, ◌∙◌, ap, subst, arith, length-append, append-nil}
-use Rattle.std.specs.Prelude.{Contains, IfSome, IsSomeAnd, Option, Some, None, Result, Ok, Err, ◌==◌}
+use Rattle.std.proofs.Common.{◌≡◌, ◌<◌, ◌≤◌, ◌+◌, ℕ, ℤ, Bool, true, IsTrue, cond, List, [], ◌∷◌, ◌++◌, length, take, refl, sym, ◌∙◌, ap, subst, arith, length-append, append-nil}
+use Rattle.std.specs.Prelude.{Contains, IfSome, IsSomeAnd, Option, Some, None, ◌==◌}
 use Rattle.std.proofs.lemmas.List.{take_all, nil_from_length}
 use Rattle.std.proofs.lemmas.Bool.Decides.{nat_tests}
 use Rattle.std.proofs.lemmas.List.Elements.{Contains-push}
 use Rattle.log_names.specs.declared.LogName.TheVariants as name
-use Rattle.table_model.specs.declared.answers.Spot.TheVariants as spot
 use Rattle.table_model.specs.declared.answers.Spot.{Spot}
 use Rattle.table_model.specs.declared.answers.StepFault.{StepFault}
 use Rattle.table_model.specs.declared.answers.StepFault.TheVariants as step
 use Rattle.table_model.specs.declared.known.Refusal.TheVariants as refusal
 use Rattle.table_model.specs.Log.{Commit, IsNextCommit, commit_time}
-use Rattle.table_model.specs.Knowledge.{Knowledge, Terms, StartsWith, IsGrown}
+use Rattle.table_model.specs.Knowledge.{Knowledge, Terms, StartsWith}
 use Rattle.table_model.specs.Conditions.{MayRatify, triple}
 use Rattle.table_model.specs.Learning.{IsFaultPutting, IsOnlyMemory, fault_noted, RatifiedLearnt, LostLearnt, FullLearnt, BacklogLearnt}
-use Rattle.snapshot_load.specs.Causes.{FailedAt}
 use Rattle.writer_txn.specs.Proposing.{HasRoom, HasStopped, IsRatified, HasLost, IsRefusedFull, staged_noted}
 
 -- a proposal may be ratified once it is staged

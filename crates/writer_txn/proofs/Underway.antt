@@ -1,18 +1,16 @@
 -- A write from attempt to attempt: what is known between them, and what each answer says.
-use Rattle.std.proofs.Common.{◌≡◌, ◌<◌, ◌≤◌, ◌+◌, ◌⊎◌, inl, inr, ℕ, ℤ, pos, Bool, IsTrue, List, [], ◌∷◌, ◌++◌, length, take, refl, sym, ◌∙◌, ap, subst, arith, length-append, append-nil, append_assoc, get_or}
-use Rattle.std.specs.Prelude.{Option, Some, None, IfSome, IsSomeAnd, Contains, Result, Ok, Err, slice_index_or}
-use Rattle.std.specs.List.{AllPairs, All}
-use Rattle.std.proofs.lemmas.List.{take_all}
+use Rattle.std.proofs.Common.{◌≡◌, ◌<◌, ◌≤◌, ◌+◌, ◌⊎◌, inl, inr, ℕ, ℤ, Bool, IsTrue, List, [], ◌∷◌, ◌++◌, length, take, refl, sym, ◌∙◌, ap, subst, arith, length-append, append_assoc}
+use Rattle.std.specs.Prelude.{Option, Some, IfSome, IsSomeAnd, Contains, Result, Ok, Err}
+use Rattle.std.specs.List.{All}
 use Rattle.std.proofs.lemmas.List.Elements.{Contains-push, Contains-push_cases, All-push}
 use Rattle.std.proofs.lemmas.List.Quantifiers.{all_pairs_push}
 use Rattle.log_names.specs.declared.LogName.{LogName}
 use Rattle.log_names.specs.declared.LogName.TheVariants as name
 use Rattle.commit_catalog.specs.declared.Limits.{Limits}
-use Rattle.action_json.specs.Commit.{canonical_text}
-use Rattle.reconcile.specs.Replay.{Log, time_of_log, meta_of_log, last_said, time_said}
+use Rattle.reconcile.specs.Replay.{Log, time_of_log, meta_of_log}
 use Rattle.reconcile.specs.Standing.{StandsFor}
-use Rattle.table_rules.specs.Broken.{after, broken_by}
-use Rattle.commit_timestamps.specs.Times.{next_time, end_of_time}
+use Rattle.table_rules.specs.Broken.{after}
+use Rattle.commit_timestamps.specs.Times.{next_time}
 use Rattle.conflict_rules.specs.declared.intent.Intent.{Intent}
 use Rattle.staged_commit.specs.declared.commit.Composed.{Composed}
 use Rattle.staged_commit.specs.declared.fault.ComposeError.{ComposeError}
@@ -26,7 +24,7 @@ use Rattle.table_model.specs.declared.answers.StepFault.TheVariants as step
 use Rattle.table_model.specs.declared.known.Try.{Try}
 use Rattle.table_model.specs.declared.known.Refusal.TheVariants as refusal
 use Rattle.table_model.specs.Log.{Commit, commit_at, no_commit, history, IsNextCommit, commit_time}
-use Rattle.table_model.specs.Knowledge.{Knowledge, Terms, StartsWith, IsGrown}
+use Rattle.table_model.specs.Knowledge.{Knowledge, Terms, IsGrown}
 use Rattle.table_model.proofs.Growing.{grows_trans, grows_refl}
 use Rattle.table_model.specs.declared.answers.Spot.{Spot}
 use Rattle.snapshot_load.specs.Causes.{FaultCause}
@@ -35,19 +33,18 @@ use Rattle.std.proofs.Math.Seq.{get_or-append_seam}
 use Rattle.writer_txn.specs.declared.attempts.Front.{Front}
 use Rattle.writer_txn.specs.declared.attempts.Outcome.{Outcome}
 use Rattle.writer_txn.specs.declared.attempts.Outcome.TheVariants as outcome
-use Rattle.writer_txn.specs.declared.answers.Written.{Written}
 use Rattle.writer_txn.specs.declared.answers.Written.TheVariants as written
 use Rattle.writer_txn.specs.declared.errors.WriteError.{WriteError}
 use Rattle.writer_txn.specs.declared.errors.WriteError.TheVariants as failed
 use Rattle.writer_txn.specs.Converting.{of_fault}
 use Rattle.writer_txn.specs.Refusing.{of_compose}
-use Rattle.writer_txn.specs.Fronts.{before, above, first_clash, IsNewer}
-use Rattle.writer_txn.specs.Writing.{WriteStands, IsLaterCommit, IsNewerAt, IsNameOfWrite}
-use Rattle.writer_txn.specs.Moments.{IsFront, IsCommitted, NamesLatest, NamesBase, StopsAt, ConflictsNow, IsContended, IsFull, IsTooLarge, IsTaken, HasFailed, WrittenNow}
-use Rattle.writer_txn.specs.Proposing.{HasRoom, IsRatified, HasLost, IsRefusedFull, HasStopped, StepCause, staged_noted}
-use Rattle.writer_txn.specs.Judging.{CaughtNow, LeavesOwn, NamesSeen}
+use Rattle.writer_txn.specs.Fronts.{before, above, IsNewer}
+use Rattle.writer_txn.specs.Writing.{WriteStands, IsLaterCommit, IsNewerAt}
+use Rattle.writer_txn.specs.Moments.{IsFront, IsCommitted, NamesLatest, NamesBase, ConflictsNow, IsContended, IsFull, IsTaken, WrittenNow}
+use Rattle.writer_txn.specs.Proposing.{HasRoom, IsRatified, HasLost, IsRefusedFull, HasStopped}
+use Rattle.writer_txn.specs.Judging.{CaughtNow, LeavesOwn}
 use Rattle.writer_txn.specs.Trying.{IsFrontOf, IsUnderway, GoesOn, AttemptNow}
-use Rattle.writer_txn.proofs.Lasting.{front_kept, commit_kept, length_kept, clash_longer}
+use Rattle.writer_txn.proofs.Lasting.{front_kept, length_kept, clash_longer}
 use Rattle.writer_txn.proofs.Judgements.{front_parts, all_before}
 use Rattle.writer_txn.proofs.FirstCommits.{is_next, is_timed}
 

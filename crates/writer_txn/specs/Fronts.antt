@@ -3,7 +3,7 @@
 --     above base version log   the actions of each commit above the base and below a version
 --     IsNewer intent table     the application's number in the table is none, or below the request's
 --     first_clash              the first conflict with the commits above the base
-use Rattle.std.specs.Prelude.{ℕ, ℤ, ◌+◌, ◌<ℤ◌, List, take, drop, Option, IfSome}
+use Rattle.std.specs.Prelude.{ℕ, ◌+◌, ◌<ℤ◌, List, take, drop, Option, IfSome}
 use Rattle.reconcile.specs.Replay.{Log}
 use Rattle.table_rules.specs.Broken.{number_at}
 use Rattle.conflict_rules.specs.declared.intent.Intent.{Intent}

@@ -1,10 +1,8 @@
 -- What a write makes of the commits that were ratified since it took the table in.
-use Rattle.std.specs.Prelude.{◌≡◌, ◌≤ℤ◌, ◌<ℤ◌, ◌+◌, ℕ, ℤ, List, length, Bool, Option, Some, None, IfSome, Result, Ok, Err, ⊤}
+use Rattle.std.specs.Prelude.{◌≡◌, ◌≤ℤ◌, ◌<ℤ◌, ◌+◌, ℕ, ℤ, length, Bool, Option, Some, None, IfSome, Result, Ok, Err, ⊤}
 use Rattle.conflict_rules.specs.declared.intent.Intent.{Intent}
-use Rattle.table_model.specs.declared.answers.Spot.{Spot}
 use Rattle.table_model.specs.Knowledge.{Knowledge}
 use Rattle.snapshot_load.specs.Causes.{FaultCause}
-use Rattle.writer_txn.specs.declared.attempts.Front.{Front}
 use Rattle.writer_txn.specs.declared.attempts.Outcome.{Outcome}
 use Rattle.writer_txn.specs.declared.attempts.Outcome.TheVariants as outcome
 use Rattle.writer_txn.specs.declared.answers.Written.TheVariants as written

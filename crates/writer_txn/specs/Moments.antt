@@ -1,5 +1,5 @@
 -- What an answer says of its moment: of what the caller knew before the call, k, and knows after it, m.
-use Rattle.std.specs.Prelude.{◌≡◌, ◌<◌, ◌≤◌, ◌+◌, ◌++◌, ◌∷◌, [], ℕ, List, length, Bool, Contains, Option, Some, None, IfSome, Result, Ok, Err}
+use Rattle.std.specs.Prelude.{◌≡◌, ◌<◌, ◌≤◌, ◌+◌, ◌++◌, ◌∷◌, [], ℕ, length, Bool, Contains, Option, Some, None, IfSome, Result, Ok, Err}
 use Rattle.std.specs.List.{AllPairs}
 use Rattle.log_names.specs.declared.LogName.TheVariants as name
 use Rattle.table_model.specs.declared.answers.Spot.{Spot}

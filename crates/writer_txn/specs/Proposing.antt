@@ -1,5 +1,5 @@
 -- What comes of a commit that is staged for the next version and handed to the catalogue.
-use Rattle.std.specs.Prelude.{◌≡◌, ◌<◌, ◌≤◌, ◌+◌, ◌++◌, ◌∷◌, [], ℕ, ℤ, List, length, Bool, IsTrue, IfSome, IsSomeAnd, Option, Result, Ok, Err, ⊤}
+use Rattle.std.specs.Prelude.{◌≡◌, ◌<◌, ◌≤◌, ◌+◌, ◌++◌, ◌∷◌, [], ℕ, List, length, Bool, IsTrue, IfSome, IsSomeAnd, Option, Result, Ok, Err, ⊤}
 use Rattle.log_names.specs.declared.LogName.TheVariants as name
 use Rattle.table_model.specs.declared.answers.StepFault.{StepFault}
 use Rattle.table_model.specs.declared.answers.StepFault.TheVariants as step

@@ -1,5 +1,5 @@
 -- A write while it goes on, from attempt to attempt.
-use Rattle.std.specs.Prelude.{◌≡◌, ◌<◌, ◌≤◌, ◌+◌, ℕ, ℤ, List, length, Bool, IsTrue, Contains, Option, Some, None, Result, Ok, Err}
+use Rattle.std.specs.Prelude.{◌≡◌, ◌<◌, ◌≤◌, ◌+◌, ℕ, ℤ, List, length, Bool, IsTrue, Contains, None, Result, Ok, Err}
 use Rattle.std.specs.List.{AllPairs, All}
 use Rattle.log_names.specs.declared.LogName.TheVariants as name
 use Rattle.reconcile.specs.Standing.{StandsFor}
@@ -12,7 +12,6 @@ use Rattle.writer_txn.specs.Writing.{WriteStands}
 use Rattle.writer_txn.specs.declared.attempts.Front.{Front}
 use Rattle.writer_txn.specs.declared.attempts.Outcome.{Outcome}
 use Rattle.writer_txn.specs.declared.attempts.Outcome.TheVariants as outcome
-use Rattle.writer_txn.specs.declared.answers.Written.{Written}
 use Rattle.writer_txn.specs.declared.errors.WriteError.{WriteError}
 
 -- the state is that of the table up to the last version that was taken in, and nothing in it stands against the write

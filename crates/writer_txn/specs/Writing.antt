@@ -1,6 +1,6 @@
 -- What an answer of a write says of the log: it stands in the log as it was seen at the answer, and in every longer one.
 -- The base is the last version when the table was loaded.
-use Rattle.std.specs.Prelude.{◌≡◌, ◌<◌, ◌≤◌, ◌+◌, ◌≤ℤ◌, ℕ, ℤ, List, length, Bool, IsTrue, Option, Some, None, Result, Ok, Err, ⊤}
+use Rattle.std.specs.Prelude.{◌≡◌, ◌<◌, ◌≤◌, ◌+◌, ◌≤ℤ◌, ℕ, ℤ, List, length, Bool, IsTrue, Some, None, Result, Ok, Err, ⊤}
 use Rattle.action_json.specs.Commit.{canonical_text}
 use Rattle.reconcile.specs.Replay.{time_of_log}
 use Rattle.table_rules.specs.declared.broken.Broken.{Broken}

@@ -1,16 +1,15 @@
-use Rattle.std.proofs.Common.{rules, arith, ◌≡◌, ◌∙◌, ◌+◌, ◌≤◌, ap, refl, sym, subst, length, ℕ, ℤ, to_z, of_z, w64, Fits}
+use Rattle.std.proofs.Common.{rules, arith, ◌≤◌, ap, subst, length, ℤ, w64, Fits}
 use Rattle.std.proofs.lemmas.Int.{to_z-of_z}
-use Rattle.std.specs.Prelude.{Err, IfOk, IfErr}
+use Rattle.std.specs.Prelude.{Err}
 use Rattle.reconcile.specs.Replay.{Log}
 use Rattle.reconcile.specs.Standing.{StandsFor}
 use Rattle.staged_commit.specs.Answers.{IsAppended, IsAppendRefused}
-use Rattle.table_model.specs.Knowledge.{Knowledge, IsGrown}
+use Rattle.table_model.specs.Knowledge.{Knowledge}
 use Rattle.writer_txn.specs.Converting.{of_fault}
 use Rattle.writer_txn.specs.Refusing.{of_compose}
 use Rattle.writer_txn.specs.Moments.{WrittenNow}
-use Rattle.writer_txn.specs.Writing.{WriteStands, IsLaterCommit, IsNameOfWrite}
+use Rattle.writer_txn.specs.Writing.{WriteStands}
 use Rattle.writer_txn.specs.Judging.{GoesFrom}
-use Rattle.writer_txn.specs.Trying.{AttemptStands, AttemptNow}
 use Rattle.writer_txn.proofs.Underway.{refused_write, refused_write_now, append_next, append_timed, room_for, written_stands, written_now, full_now, name_taken, attempt_stopped, caught_attempt}
 use Rattle.writer_txn.proofs.Catching.{goes_on, front_longer, full_stands, name_stands, within_limit}
 use Rattle.writer_txn.proofs.attempts.attempt.Goals as goal

@@ -1,4 +1,4 @@
-use Rattle.std.proofs.Common.{rules, arith, ◌≡◌, ◌∙◌}
+use Rattle.std.proofs.Common.{rules}
 use Rattle.std.specs.Prelude.{Err}
 use Rattle.writer_txn.specs.Converting.{of_load}
 use Rattle.writer_txn.specs.Judging.{CaughtNow}

@@ -1,11 +1,9 @@
-use Rattle.std.proofs.Common.{rules, arith, ◌≡◌, ◌∙◌, ◌+◌, ◌++◌, ◌<◌, length, ap, refl, sym, subst, ℕ, ℤ, List, to_z, of_z, w64, Fits}
+use Rattle.std.proofs.Common.{rules, arith, ◌≡◌, ◌∙◌, ◌+◌, ◌++◌, ◌<◌, length, ap, refl, sym, subst, ℕ, ℤ, List, w64, Fits}
 use Rattle.std.proofs.lemmas.Int.{to_z-of_z}
-use Rattle.std.specs.Prelude.{Option, Some, None, option_map, IfSome, Vec}
+use Rattle.std.specs.Prelude.{Some, None, option_map, Vec}
 use Rattle.std.specs.declared.alloc.Global.{Global}
 use Rattle.action_types.specs.declared.actions.Action.{Action}
-use Rattle.reconcile.specs.Replay.{Log}
 use Rattle.reconcile.specs.Standing.{StandsFor, live_in}
-use Rattle.table_rules.specs.Seen.{number_in}
 use Rattle.conflict_rules.specs.Conflict.{placed, first_of, conflict_by, commits_of}
 use Rattle.writer_txn.specs.Writing.{IsAlready, IsConflict}
 use Rattle.writer_txn.proofs.Judgements.{caught_front, caught_already, caught_conflict, place_within}

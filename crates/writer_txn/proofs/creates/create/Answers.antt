@@ -1,9 +1,7 @@
-use Rattle.std.proofs.Common.{rules, ◌≡◌, ◌<◌, ◌∙◌, ap, sym, subst, refl, arith, length, [], ℕ, ℤ, List, to_z, of_z}
+use Rattle.std.proofs.Common.{rules, ◌∙◌, ap, subst, arith, ℤ}
 use Rattle.std.specs.Int.{w64}
 use Rattle.std.proofs.lemmas.Int.{to_z-of_z}
 use Rattle.std.specs.Prelude.{Err}
-use Rattle.staged_commit.specs.Answers.{IsComposed}
-use Rattle.staged_commit.specs.Composed.{composed_create}
 use Rattle.staged_commit.proofs.Appends.{create-time}
 use Rattle.table_model.specs.Log.{history}
 use Rattle.writer_txn.specs.Converting.{of_fault}

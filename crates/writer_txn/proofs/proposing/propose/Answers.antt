@@ -1,7 +1,6 @@
-use Rattle.std.proofs.Common.{rules, ◌≡◌, ◌∙◌, ap, sym, subst, ℕ, ℤ, List, to_z, of_z}
+use Rattle.std.proofs.Common.{rules, ◌≡◌, ◌∙◌, ap, sym, subst, ℕ, ℤ, List}
 use Rattle.std.specs.Int.{w64}
 use Rattle.std.proofs.lemmas.Int.{to_z-of_z}
-use Rattle.table_model.specs.Knowledge.{Knowledge}
 use Rattle.table_model.specs.Conditions.{MayRatify}
 use Rattle.writer_txn.specs.Proposing.{staged_noted, HasStopped}
 use Rattle.writer_txn.proofs.Proposals.{may_ratify, ratified, full, stage_stopped}

@@ -1,7 +1,7 @@
-use Rattle.std.proofs.Common.{rules, arith, ◌≡◌, ◌∙◌, ◌≤◌, refl, sym, subst, ℕ, ℤ, to_z, of_z, w64}
+use Rattle.std.proofs.Common.{rules, ◌∙◌, ◌≤◌, refl, sym, subst, ℤ, w64}
 use Rattle.std.proofs.lemmas.Int.{to_z-of_z}
 use Rattle.std.specs.Prelude.{Err, Option, IfSome}
-use Rattle.table_model.specs.Knowledge.{Knowledge, Terms}
+use Rattle.table_model.specs.Knowledge.{Terms}
 use Rattle.table_model.proofs.Growing.{grows_refl}
 use Rattle.writer_txn.specs.Converting.{of_load}
 use Rattle.writer_txn.specs.Moments.{WrittenNow}
