@@ -67,6 +67,10 @@ fn reads_requests_in_any_pieces(rt: HostRuntime) -> Result<(), Fail> {
             "POST /a 3, PUT /b 0, GET /c 0, end",
         ),
         (
+            "PUT /tables/t1/log/_staged_commits/00000000000000000001.22222222-2222-4222-8222-222222222222.json HTTP/1.1\r\nHost: localhost\r\nContent-Length: 341\r\n\r\n{\"commitInfo\":{\"timestamp\":1999,\"operation\":\"WRITE\",\"operationParameters\":{\"mode\":\"Append\"},\"share\":0.5,\"inCommitTimestamp\":2000,\"txnId\":\"33333333-3333-4333-8333-333333333333\"}}\n{\"add\":{\"path\":\"part-00000.parquet\",\"partitionValues\":{},\"size\":1024,\"modificationTime\":1999,\"dataChange\":true,\"stats\":\"{\\\"numRecords\\\":3}\",\"tags\":{},\"extra\":[1]}}POST /tables/t1/commits HTTP/1.1\r\nHost: localhost\r\nContent-Length: 80\r\n\r\n{\"commit\":{\"id\":\"22222222-2222-4222-8222-222222222222\",\"time\":2000,\"version\":1}}",
+            "PUT /tables/t1/log/_staged_commits/00000000000000000001.22222222-2222-4222-8222-222222222222.json 341, POST /tables/t1/commits 80, end",
+        ),
+        (
             "GET / HTTP/1.1\r\nContent-Length: 0000000002\r\n\r\nxyGET",
             "GET / 2, cut",
         ),
