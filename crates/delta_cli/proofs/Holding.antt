@@ -97,23 +97,23 @@ drain_failed : (tells : Bool) (w1 w2 : WorldData) (k1 k2 : Knowledge) → IsAfte
 drain_failed tells w1 w2 k1 k2 after (inl rose) = inl (after.cause rose)
 drain_failed tells w1 w2 k1 k2 after (inr untold) = inr untold
 
-held : (limits : Limits) (files : Files) (tells : Bool) (w0 w1 w2 : WorldData) (k1 k2 : Knowledge) (fixed : Bool) (reading : ℤ)
+held : (limits : Limits) (files : Files) (tells : Bool) (w0 w1 w2 : WorldData) (k1 k2 : Knowledge) (fixed : Bool) (reading : ℤ) (differ : Bool) (given : List ℕ) (differ' : Bool) (given' : List ℕ)
     (in_tells : Bool) (taken left taken' left' : List ℕ) (out_tells : Bool) (written written' : List ℕ) (e : End) (st : Status)
     → IsFresh limits files tells w0
-    → SessionOf tells (at_start (terms_of w0)) k1 fixed reading in_tells taken left taken' left' out_tells written written' e
+    → SessionOf tells (at_start (terms_of w0)) k1 fixed reading differ given differ' given' in_tells taken left taken' left' out_tells written written' e
     → IsAfter (record { world = w0; known = at_start (terms_of w0) }) (record { world = w1; known = k1 })
     → IsAfter (record { world = w1; known = k1 }) (record { world = w2; known = k2 })
     → KeepsLog w1 w2
     → IsStatusOf e st → (st ≡ status.StoreFault → HasFailed tells k1 k2) → (st ≡ status.Done → IsSettled w2) → IsConsistent w2
-    → HasRun limits tells files fixed reading in_tells taken left taken' left' out_tells written written' st w2
-held limits files tells w0 w1 w2 k1 k2 fixed reading in_tells taken left taken' left' out_tells written written' e st fresh session first second keeps ends failed settled consistent =
+    → HasRun limits tells files fixed reading differ given differ' given' in_tells taken left taken' left' out_tells written written' st w2
+held limits files tells w0 w1 w2 k1 k2 fixed reading differ given differ' given' in_tells taken left taken' left' out_tells written written' e st fresh session first second keeps ends failed settled consistent =
     let start : HasAll (record { world = w0; known = at_start (terms_of w0) }) =
     subst (λ (w : WorldData). HasAll (record { world = w; known = at_start (terms_of w) })) (sym fresh.is) (new_has_all limits files tells) in
     let all : HasAll (record { world = w1; known = k1 }) = first.all start in
     let none : w0.tally ≡ 0 = ap (λ (w : WorldData). w.tally) fresh.is in
     let terms : terms_of w2 ≡ terms_of w0 = terms_same w1 w2 second.later ∙ terms_same w0 w1 first.later in
-    let there : SessionOf tells (at_start (terms_of w2)) k1 fixed reading in_tells taken left taken' left' out_tells written written' e =
-    subst (λ (t : Terms). SessionOf tells (at_start t) k1 fixed reading in_tells taken left taken' left' out_tells written written' e) (sym terms) session in
+    let there : SessionOf tells (at_start (terms_of w2)) k1 fixed reading differ given differ' given' in_tells taken left taken' left' out_tells written written' e =
+    subst (λ (t : Terms). SessionOf tells (at_start t) k1 fixed reading differ given differ' given' in_tells taken left taken' left' out_tells written written' e) (sym terms) session in
     let log : log_of w2 ≡ log_of w1 = same_log w1 w2 second.later.log keeps.records in
     let count : length (versions_in there.session.moments) ≡ length (log_of w2) =
     sym (ap length there.session.told.mine) ∙ all.mine ∙ sym (length-log_of w1) ∙ sym (ap length log) in
@@ -137,18 +137,18 @@ held limits files tells w0 w1 w2 k1 k2 fixed reading in_tells taken left taken' 
     }
 
 -- the same, where the caller is seen with its world
-pub held_by : (limits : Limits) (files : Files) (tells : Bool) (w0 w2 : WorldData) (a0 a1 a2 : Alone) (fixed : Bool) (reading : ℤ)
+pub held_by : (limits : Limits) (files : Files) (tells : Bool) (w0 w2 : WorldData) (a0 a1 a2 : Alone) (fixed : Bool) (reading : ℤ) (differ : Bool) (given : List ℕ) (differ' : Bool) (given' : List ℕ)
     (in_tells : Bool) (taken left taken' left' : List ℕ) (out_tells : Bool) (written written' : List ℕ) (e : End) (st : Status)
     → a0.world ≡ w0 → a0.known ≡ at_start (terms_of w0) → w2 ≡ a2.world
     → IsFresh limits files tells w0
-    → SessionOf tells a0.known a1.known fixed reading in_tells taken left taken' left' out_tells written written' e
+    → SessionOf tells a0.known a1.known fixed reading differ given differ' given' in_tells taken left taken' left' out_tells written written' e
     → IsAfter a0 a1 → IsAfter a1 a2 → KeepsLog a1.world a2.world
     → IsStatusOf e st → (st ≡ status.StoreFault → HasFailed tells a1.known a2.known) → (st ≡ status.Done → IsSettled a2.world) → IsConsistent w2
-    → HasRun limits tells files fixed reading in_tells taken left taken' left' out_tells written written' st w2
-held_by limits files tells w0 w2 a0 a1 a2 fixed reading in_tells taken left taken' left' out_tells written written' e st world_is known_is last_is fresh session first second keeps ends failed settled consistent =
+    → HasRun limits tells files fixed reading differ given differ' given' in_tells taken left taken' left' out_tells written written' st w2
+held_by limits files tells w0 w2 a0 a1 a2 fixed reading differ given differ' given' in_tells taken left taken' left' out_tells written written' e st world_is known_is last_is fresh session first second keeps ends failed settled consistent =
     let start : a0 ≡ record { world = w0; known = at_start (terms_of w0) } =
     ap (λ (w : WorldData). let a : Alone = record { world = w; known = a0.known } in a) world_is ∙ ap (λ (k : Knowledge). let a : Alone = record { world = w0; known = k } in a) known_is in
-    subst (λ (w : WorldData). HasRun limits tells files fixed reading in_tells taken left taken' left' out_tells written written' st w) (sym last_is)
-    (held limits files tells w0 a1.world a2.world a1.known a2.known fixed reading in_tells taken left taken' left' out_tells written written' e st fresh
-    (subst (λ (k : Knowledge). SessionOf tells k a1.known fixed reading in_tells taken left taken' left' out_tells written written' e) known_is session)
+    subst (λ (w : WorldData). HasRun limits tells files fixed reading differ given differ' given' in_tells taken left taken' left' out_tells written written' st w) (sym last_is)
+    (held limits files tells w0 a1.world a2.world a1.known a2.known fixed reading differ given differ' given' in_tells taken left taken' left' out_tells written written' e st fresh
+    (subst (λ (k : Knowledge). SessionOf tells k a1.known fixed reading differ given differ' given' in_tells taken left taken' left' out_tells written written' e) known_is session)
     (subst (λ (a : Alone). IsAfter a a1) start first) second keeps ends failed settled (subst IsConsistent last_is consistent))

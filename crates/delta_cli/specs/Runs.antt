@@ -19,6 +19,10 @@ use Rattle.delta_cli.specs.Endings.{IsStatusOf, IsCutShort}
 use Rattle.delta_cli.specs.declared.endings.Status.{Status}
 use Rattle.delta_cli.specs.declared.endings.Status.TheVariants as status
 
+-- the limits of a run's table: versions, unpublished versions, attempts of a write, bytes of a commit
+abbrev pub run_limits : Limits
+run_limits = record { versions = 1000000; unpublished = 1000000; attempts = 64; bytes = 16777216 }
+
 -- why no session was begun: by the words, the names in the folder, and the store's count of faults before and now
 abbrev pub NotRunBy : List (String Global) → Bool → Files → ℕ → ℕ → Status → Type 0
 NotRunBy words tells files before now status.Done = ⊥
@@ -37,7 +41,7 @@ pub record CountsCommits (said unsaid log : ℕ) (st : Status) : Type 0 where
   pub cut : 0 < unsaid → IsCutShort st
 
 -- a session over a new table, and the world after the drain
-pub record HasRun (limits : Limits) (tells : Bool) (files : Files) (fixed : Bool) (reading : ℤ) (in_tells : Bool) (taken left taken' left' : List ℕ)
+pub record HasRun (limits : Limits) (tells : Bool) (files : Files) (fixed : Bool) (reading : ℤ) (differ : Bool) (given : List ℕ) (differ' : Bool) (given' : List ℕ) (in_tells : Bool) (taken left taken' left' : List ℕ)
     (out_tells : Bool) (written written' : List ℕ) (st : Status) (world : WorldData) : Type 0 where
   -- the folder had no name of the log
   pub empty : IsTrue tells → first_log_name (names_of files) ≡ None
@@ -47,7 +51,7 @@ pub record HasRun (limits : Limits) (tells : Bool) (files : Files) (fixed : Bool
   pub ended : End
   pub known : Knowledge
   pub seen : known.seen ≡ log_of world
-  pub session : SessionOf tells (at_start (terms_of world)) known fixed reading in_tells taken left taken' left' out_tells written written' ended
+  pub session : SessionOf tells (at_start (terms_of world)) known fixed reading differ given differ' given' in_tells taken left taken' left' out_tells written written' ended
   pub status_is : IsStatusOf ended st
   -- each reply is right of the commits of this world, fronts never fall, and none is above their number
   pub told : ToldOver tells session.session.moments (log_of world)

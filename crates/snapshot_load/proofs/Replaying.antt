@@ -12,10 +12,11 @@ use Rattle.reconcile.specs.Replay.{time_of_log, last_said, time_said}
 use Rattle.reconcile.proofs.Last.{last_commit-push}
 use Rattle.table_model.specs.Log.{Commit, commit_at, commit_time, history, no_commit, IsSound}
 use Rattle.table_model.specs.Knowledge.{Knowledge}
-use Rattle.snapshot_load.specs.Reading.{OnlyReads, IsCatalogue}
+use Rattle.snapshot_load.specs.Reading.{KeepsBelow, OnlyReads, IsCatalogue}
+use Rattle.snapshot_load.proofs.Keeping.{keeps_none, keeps_both}
 
 pub reads_none : (k : Knowledge) → OnlyReads 0 k k
-reads_none k = record { same = refl; gets = omega arith }
+reads_none k = record { same = refl; gets = omega arith; kept = keeps_none (length k.seen) k k refl }
 
 -- what reads files leaves what was seen
 pub seen_same : (n : ℕ) (k m : Knowledge) → OnlyReads n k m → m.seen ≡ k.seen
@@ -26,6 +27,9 @@ pub reads_more : (n p : ℕ) (j k m : Knowledge) → OnlyReads n j k → OnlyRea
 reads_more n p j k m g h = record {
   same = h.same ∙ ap (λ (x : Knowledge). let y : Knowledge = record x { published = m.published; kept = m.kept; absents = m.absents; gets = m.gets; failed = m.failed; faults = m.faults } in y) g.same;
   gets = omega (arith, g.gets, h.gets);
+  kept =
+      let seen : length k.seen ≡ length j.seen = ap (λ (x : Knowledge). length x.seen) g.same in
+      keeps_both (length j.seen) (length j.seen) j k m (omega arith) g.kept (subst (λ (count : ℕ). KeepsBelow count k m) seen h.kept);
 }
 
 pub reads_at : (n p : ℕ) (j k : Knowledge) → n ≡ p → OnlyReads n j k → OnlyReads p j k

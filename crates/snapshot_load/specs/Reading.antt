@@ -1,19 +1,25 @@
 -- What the turns of a load are, and what they leave.
-use Rattle.std.specs.Prelude.{◌≡◌, ◌<◌, ◌≤◌, ◌+◌, ◌*◌, ◌++◌, ◌∷◌, [], ℕ, Bool, IsTrue, length, slice_index_or}
+use Rattle.std.specs.Prelude.{◌≡◌, ◌<◌, ◌≤◌, ◌+◌, ◌*◌, ◌++◌, ◌∷◌, [], ℕ, Bool, IsTrue, All, length, slice_index_or}
 use Rattle.commit_catalog.specs.declared.Commits.{Commits}
 use Rattle.table_model.specs.declared.answers.Spot.TheVariants as spot
 use Rattle.table_model.specs.Log.{commit_at}
-use Rattle.table_model.specs.Knowledge.{Knowledge}
+use Rattle.table_model.specs.Knowledge.{Knowledge, StartsWith}
 use Rattle.table_model.specs.Learning.{no_ratified}
 use Rattle.snapshot_load.specs.declared.reading.CommitFile.{CommitFile}
 use Rattle.snapshot_load.specs.declared.reading.Place.{Place}
 use Rattle.snapshot_load.specs.declared.reading.Place.TheVariants as place
 use Rattle.snapshot_load.specs.Causes.{IsFileName}
 
--- at most so many turns, each of which reads a file: no other part of the knowledge changed
+-- the staged files that became known are of versions below this number
+pub record KeepsBelow (count : ℕ) (k m : Knowledge) : Type 0 where
+  pub kept : StartsWith m.kept k.kept
+  pub below : All (λ t. t.version < count) kept.rest
+
+-- at most so many turns, each of which reads a file of a ratified version: no other part of the knowledge changed
 pub record OnlyReads (reads : ℕ) (k m : Knowledge) : Type 0 where
   pub same : m ≡ record k { published = m.published; kept = m.kept; absents = m.absents; gets = m.gets; failed = m.failed; faults = m.faults }
   pub gets : m.gets ≤ k.gets + reads
+  pub kept : KeepsBelow (length k.seen) k m
 
 -- at most one turn reads the catalogue, so many list the folder, and two read a file for each of so many versions; all that the caller did itself stays: its own versions, what it staged, tried, cleared
 pub record OnlyLoads (lists versions : ℕ) (k m : Knowledge) : Type 0 where
@@ -35,6 +41,7 @@ pub record OnlyLoads (lists versions : ℕ) (k m : Knowledge) : Type 0 where
   pub asks : m.asks ≤ k.asks + 1
   pub lists_most : m.lists ≤ k.lists + lists
   pub gets : m.gets ≤ k.gets + 2 * versions
+  pub kept : KeepsBelow (length m.seen) k m
 
 -- the catalogue was read once, and what was seen then is as long as all that was told before
 pub record HasAsked (k m : Knowledge) : Type 0 where

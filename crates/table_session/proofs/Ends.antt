@@ -20,7 +20,9 @@ use Rattle.table_session.specs.Sessions.{IsFirstOf, HeardMost, WroteAll, WroteSh
 use Rattle.table_session.specs.Sessions as sessions
 use Rattle.table_session.specs.declared.hearing.Asked.{Asked}
 use Rattle.table_session.proofs.Chains.{run_told}
-use Rattle.table_session.proofs.Turns.{Before, Talking, run_more, lines_said, readings_more}
+use Rattle.writer_txn.specs.Named.{NamesApart}
+use Rattle.table_session.specs.Naming.{takens_of}
+use Rattle.table_session.proofs.Turns.{Before, Talking, run_more, lines_said, readings_more, names_more}
 
 -- the first lines have the first of the lines that ask
 first_asking : (read : List ℕ) (handed : List (List ℕ)) → HeardFirst read handed → IsFirstOf (lines_asking handed) (lines_asking (cut read))
@@ -51,10 +53,10 @@ wrote_all tells left read handed end.WriteFault said h = absurd h
 wrote_all tells left read handed end.Memory said h = record { one = omega arith; is = refl }
 
 -- no further line
-pub ends_heard : (tells fixed in_tells out_tells : Bool) (b : Before) (k : Knowledge) (reading : ℤ) (taken left taken' left' written : List ℕ) (at : At) (ended : End)
-    → (t : Talking tells fixed in_tells out_tells b k reading taken left written at) → HearsEnd in_tells taken left t.bytes t.handed ended taken' left'
-    → SessionOf tells b.known k fixed b.reading in_tells b.taken b.left taken' left' out_tells b.written written ended
-ends_heard tells fixed in_tells out_tells b k reading taken left taken' left' written at ended t h = record {
+pub ends_heard : (tells fixed in_tells out_tells : Bool) (b : Before) (k : Knowledge) (reading : ℤ) (differ : Bool) (given taken left taken' left' written : List ℕ) (at : At) (ended : End)
+    → (t : Talking tells fixed in_tells out_tells b k reading differ given taken left written at) → HearsEnd in_tells taken left t.bytes t.handed ended taken' left'
+    → SessionOf tells b.known k fixed b.reading b.differ b.given differ given in_tells b.taken b.left taken' left' out_tells b.written written ended
+ends_heard tells fixed in_tells out_tells b k reading differ given taken left taken' left' written at ended t h = record {
   read = t.bytes ++ h.new;
   wrote = texts_of t.moments;
   session = record {
@@ -70,14 +72,15 @@ ends_heard tells fixed in_tells out_tells b k reading taken left taken' left' wr
   source = takes_both in_tells b.taken b.left t.bytes taken left h.new taken' left' t.source h.takes;
   sink = t.sink;
   clock = t.readings;
+  names = t.names;
   whole = nothing_left in_tells left' (t.bytes ++ h.new) t.handed ended h.heard;
 }
 
 -- memory ran out between two lines
-pub ends_between : (tells fixed in_tells out_tells : Bool) (b : Before) (k : Knowledge) (reading : ℤ) (taken left written : List ℕ) (at : At)
-    → Talking tells fixed in_tells out_tells b k reading taken left written at
-    → SessionOf tells b.known k fixed b.reading in_tells b.taken b.left taken left out_tells b.written written end.Memory
-ends_between tells fixed in_tells out_tells b k reading taken left written at t = record {
+pub ends_between : (tells fixed in_tells out_tells : Bool) (b : Before) (k : Knowledge) (reading : ℤ) (differ : Bool) (given taken left written : List ℕ) (at : At)
+    → Talking tells fixed in_tells out_tells b k reading differ given taken left written at
+    → SessionOf tells b.known k fixed b.reading b.differ b.given differ given in_tells b.taken b.left taken left out_tells b.written written end.Memory
+ends_between tells fixed in_tells out_tells b k reading differ given taken left written at t = record {
   read = t.bytes;
   wrote = texts_of t.moments;
   session = record {
@@ -93,6 +96,7 @@ ends_between tells fixed in_tells out_tells b k reading taken left written at t 
   source = t.source;
   sink = t.sink;
   clock = t.readings;
+  names = t.names;
   whole = λ e w. cc;
 }
 
@@ -134,13 +138,14 @@ not_done : (ended : End) → (ended ≡ end.WriteFault) ⊎ (ended ≡ end.Memor
 not_done ended kind e = elim kind [ inl w ↦ cc | inr w ↦ cc ]
 
 -- the reply to a line was not written whole
-pub ends_short : (tells fixed in_tells out_tells : Bool) (b : Before) (k : Knowledge) (reading : ℤ) (taken left taken' left' written : List ℕ) (at at' : At) (a : Asked)
-    → (t : Talking tells fixed in_tells out_tells b k reading taken left written at) → (h : HearsLine in_tells taken left t.bytes t.handed a taken' left' at')
+pub ends_short : (tells fixed in_tells out_tells : Bool) (b : Before) (k : Knowledge) (reading : ℤ) (differ : Bool) (given taken left taken' left' written : List ℕ) (at at' : At) (a : Asked)
+    → (t : Talking tells fixed in_tells out_tells b k reading differ given taken left written at) → (h : HearsLine in_tells taken left t.bytes t.handed a taken' left' at')
     → gets_reply (numbered (length t.handed + 1) h.text) ≡ true
     → (x : Moment) → x.line ≡ numbered (length t.handed + 1) h.text → IsRight tells k x → (IsTrue fixed → x.reading ≡ reading)
+    → (differ' : Bool) (given' : List ℕ) → (IsTrue differ' → NamesApart differ given given' (takens_of x.reply) k x.after)
     → (text written' : List ℕ) (ended : End) → text ≡ reply_text_of x.reply → SaidShort out_tells written text ended written'
-    → SessionOf tells b.known x.after fixed b.reading in_tells b.taken b.left taken' left' out_tells b.written written' ended
-ends_short tells fixed in_tells out_tells b k reading taken left taken' left' written at at' a t h said x line right steady text written' ended is put =
+    → SessionOf tells b.known x.after fixed b.reading b.differ b.given differ' given' in_tells b.taken b.left taken' left' out_tells b.written written' ended
+ends_short tells fixed in_tells out_tells b k reading differ given taken left taken' left' written at at' a t h said x line right steady differ' given' names text written' ended is put =
     let s = short out_tells b.written written written' text t.moments x ended is t.sink put in
     let run = run_more tells b.known k t.moments x t.run right in
     record {
@@ -162,5 +167,6 @@ ends_short tells fixed in_tells out_tells b k reading taken left taken' left' wr
       source = takes_both in_tells b.taken b.left t.bytes taken left h.new taken' left' t.source h.takes;
       sink = s.sink;
       clock = λ f. readings_more b.reading t.moments x (t.readings f) (steady f ∙ t.steady f);
+      names = names_more b.differ differ differ' b.given given given' b.known k t.moments x t.names names;
       whole = λ e w. absurd (not_done ended s.kind e);
     }

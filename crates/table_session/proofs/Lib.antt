@@ -8,3 +8,4 @@ pub mod Rights
 pub mod Wholes
 pub mod Writings
 pub mod Loop
+pub mod Takens

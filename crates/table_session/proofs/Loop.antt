@@ -10,6 +10,8 @@ use Rattle.session_lines.specs.Replies.{reply_text_of}
 use Rattle.table_model.specs.Knowledge.{Knowledge, IsGrown}
 use Rattle.table_model.proofs.Growing.{grows_trans}
 use Rattle.table_session.specs.Moments.{moment}
+use Rattle.writer_txn.specs.Named.{NamesApart}
+use Rattle.table_session.specs.Naming.{takens_of}
 use Rattle.table_session.specs.Asking.{gets_reply}
 use Rattle.table_session.specs.Running.{IsRight}
 use Rattle.table_session.specs.Hearing.{IsAskedIn, HearsEnd, Hears}
@@ -25,45 +27,46 @@ abbrev pub HearsAny : Bool → List ℕ → List ℕ → At → Result Asked End
 HearsAny tells taken left at result taken' left' at' =
     (bytes : List ℕ) (handed : List (List ℕ)) → Heard tells left bytes handed at → Hears tells taken left bytes handed result taken' left' at'
 
-pub known_grows : (tells fixed in_tells out_tells : Bool) (b : Before) (k : Knowledge) (reading : ℤ) (taken left written : List ℕ) (at : At)
-    → Talking tells fixed in_tells out_tells b k reading taken left written at → IsGrown b.known k
-known_grows tells fixed in_tells out_tells b k reading taken left written at t = run_grows tells b.known k t.moments t.run
+pub known_grows : (tells fixed in_tells out_tells : Bool) (b : Before) (k : Knowledge) (reading : ℤ) (differ : Bool) (given taken left written : List ℕ) (at : At)
+    → Talking tells fixed in_tells out_tells b k reading differ given taken left written at → IsGrown b.known k
+known_grows tells fixed in_tells out_tells b k reading differ given taken left written at t = run_grows tells b.known k t.moments t.run
 
-module _ (tells fixed in_tells out_tells : Bool) (b : Before) (k : Knowledge) (reading : ℤ) (taken left written : List ℕ) (at : At)
-    (t : Talking tells fixed in_tells out_tells b k reading taken left written at) (taken' left' : List ℕ) (at' : At) where
+module _ (tells fixed in_tells out_tells : Bool) (b : Before) (k : Knowledge) (reading : ℤ) (differ : Bool) (given taken left written : List ℕ) (at : At)
+    (t : Talking tells fixed in_tells out_tells b k reading differ given taken left written at) (taken' left' : List ℕ) (at' : At) where
   pub turn_ended : (ended : End) → HearsAny in_tells taken left at (Err ended) taken' left' at'
-      → SessionOf tells b.known k fixed b.reading in_tells b.taken b.left taken' left' out_tells b.written written ended
-  turn_ended ended hears = ends_heard tells fixed in_tells out_tells b k reading taken left taken' left' written at ended t (hears t.bytes t.handed t.heard)
+      → SessionOf tells b.known k fixed b.reading b.differ b.given differ given in_tells b.taken b.left taken' left' out_tells b.written written ended
+  turn_ended ended hears = ends_heard tells fixed in_tells out_tells b k reading differ given taken left taken' left' written at ended t (hears t.bytes t.handed t.heard)
 
   pub turn_passed : (a : Asked) (gets : Bool) → HearsAny in_tells taken left at (Ok a) taken' left' at' → ((line : Numbered) → IsAskedIn line a → gets ≡ gets_reply line) → gets ≡ false
-      → Talking tells fixed in_tells out_tells b k reading taken' left' written at'
+      → Talking tells fixed in_tells out_tells b k reading differ given taken' left' written at'
   turn_passed a gets hears is none =
       let h = hears t.bytes t.handed t.heard in
-      talking_passed tells fixed in_tells out_tells b k reading taken left taken' left' written at at' a t h (sym (is (numbered (length t.handed + 1) h.text) h.line) ∙ none)
+      talking_passed tells fixed in_tells out_tells b k reading differ given taken left taken' left' written at at' a t h (sym (is (numbered (length t.handed + 1) h.text) h.line) ∙ none)
 
   module _ (a : Asked) (gets : Bool) (hears : HearsAny in_tells taken left at (Ok a) taken' left' at') (is : (line : Numbered) → IsAskedIn line a → gets ≡ gets_reply line) (some : gets ≡ true)
       (reply : Reply) (after : Knowledge) (reading' : ℤ) (last : ℕ) (right : (line : Numbered) → IsAskedIn line a → IsRight tells k (moment line reply after reading' last))
-      (steady : IsTrue fixed → reading' ≡ reading) where
-    pub turn_said : (written' : List ℕ) → written' ≡ written ++ told out_tells (reply_text_of reply) → Talking tells fixed in_tells out_tells b after reading' taken' left' written' at'
+      (steady : IsTrue fixed → reading' ≡ reading)
+      (differ' : Bool) (given' : List ℕ) (names : IsTrue differ' → NamesApart differ given given' (takens_of reply) k after) where
+    pub turn_said : (written' : List ℕ) → written' ≡ written ++ told out_tells (reply_text_of reply) → Talking tells fixed in_tells out_tells b after reading' differ' given' taken' left' written' at'
     turn_said written' put =
         let h = hears t.bytes t.handed t.heard in
         let line = numbered (length t.handed + 1) h.text in
-        talking_said tells fixed in_tells out_tells b k reading taken left taken' left' written at at' a t h (sym (is line h.line) ∙ some)
-        (moment line reply after reading' last) refl (right line h.line) steady (reply_text_of reply) written' refl put
+        talking_said tells fixed in_tells out_tells b k reading differ given taken left taken' left' written at at' a t h (sym (is line h.line) ∙ some)
+        (moment line reply after reading' last) refl (right line h.line) steady differ' given' names (reply_text_of reply) written' refl put
 
     pub turn_short : (written' : List ℕ) (ended : End) → SaidShort out_tells written (reply_text_of reply) ended written'
-        → SessionOf tells b.known after fixed b.reading in_tells b.taken b.left taken' left' out_tells b.written written' ended
+        → SessionOf tells b.known after fixed b.reading b.differ b.given differ' given' in_tells b.taken b.left taken' left' out_tells b.written written' ended
     turn_short written' ended put =
         let h = hears t.bytes t.handed t.heard in
         let line = numbered (length t.handed + 1) h.text in
-        ends_short tells fixed in_tells out_tells b k reading taken left taken' left' written at at' a t h (sym (is line h.line) ∙ some)
-        (moment line reply after reading' last) refl (right line h.line) steady (reply_text_of reply) written' ended refl put
+        ends_short tells fixed in_tells out_tells b k reading differ given taken left taken' left' written at at' a t h (sym (is line h.line) ∙ some)
+        (moment line reply after reading' last) refl (right line h.line) steady differ' given' names (reply_text_of reply) written' ended refl put
 
     pub grows_now : IsGrown k after
     grows_now = let h = hears t.bytes t.handed t.heard in (right (numbered (length t.handed + 1) h.text) h.line).grows
 
     pub grows_after : IsGrown b.known after
-    grows_after = grows_trans b.known k after (known_grows tells fixed in_tells out_tells b k reading taken left written at t) grows_now
+    grows_after = grows_trans b.known k after (known_grows tells fixed in_tells out_tells b k reading differ given taken left written at t) grows_now
 
 -- a fault of the sink does not come of hearing
 not_of_sink : (tells : Bool) (taken left bytes taken' left' : List ℕ) (handed : List (List ℕ)) (ended : End) → HearsEnd tells taken left bytes handed ended taken' left' → ended ≡ end.WriteFault → ⊥

@@ -15,6 +15,7 @@ use Rattle.snapshot_load.specs.declared.errors.LoadError.TheVariants as load
 use Rattle.snapshot_load.specs.Snapshots.{IsSnapshot}
 use Rattle.snapshot_load.specs.Causes.{LoadCause, UnlessMemory}
 use Rattle.snapshot_load.specs.Reading.{OnlyLoads, HasAsked}
+use Rattle.snapshot_load.proofs.Keeping.{loads_none}
 use Rattle.session_lines.specs.declared.fault.BadLine.{BadLine}
 use Rattle.session_lines.specs.declared.fault.BadLine.TheVariants as bad
 use Rattle.session_lines.specs.declared.fault.LineWhy.{LineWhy}
@@ -73,7 +74,7 @@ memory_right tells k line reading last (Err first) e = right_for tells k (moment
 memory_right tells k line reading last (Ok (request.Create what)) e = right_for tells k (moment line reply.Memory k reading last) (Ok (request.Create what)) e (grows_refl k) tt refl (memory_gains tells k)
 memory_right tells k line reading last (Ok (request.Write intent)) e = right_for tells k (moment line reply.Memory k reading last) (Ok (request.Write intent)) e (grows_refl k) tt refl (memory_gains tells k)
 memory_right tells k line reading last (Ok request.Load) e =
-    let turns : OnlyLoads 1 (length k.seen) k k = record { same = refl; asks = omega arith; lists_most = omega arith; gets = omega arith } in
+    let turns : OnlyLoads 1 (length k.seen) k k = loads_none 1 (length k.seen) k k refl in
     right_for tells k (moment line reply.Memory k reading last) (Ok request.Load) e (grows_refl k) tt (record { asked = tt; turns = turns; newest = tt; cause = tt }) (memory_gains tells k)
 
 refused : (tells : Bool) (k : Knowledge) (line : Numbered) (number : ℕ) (b : BadLine) (reading : ℤ) (last : ℕ) → number ≡ line.at

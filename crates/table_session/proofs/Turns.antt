@@ -12,24 +12,31 @@ use Rattle.lake_io.proofs.Telling.{told-append, told-nil, takes_none, takes_both
 use Rattle.lake_io.proofs.Hearing.{heard_start}
 use Rattle.session_lines.specs.Replies.{reply_text_of}
 use Rattle.table_model.specs.Knowledge.{Knowledge}
+use Rattle.writer_txn.specs.Named.{NamesApart}
+use Rattle.writer_txn.proofs.Naming.{apart_none, apart_both, apart_at}
 use Rattle.table_session.specs.Moments.{Moment, lines_of, texts_of}
 use Rattle.table_session.specs.Asking.{gets_reply, lines_asking}
+use Rattle.table_session.specs.Naming.{takens_of}
+use Rattle.table_session.specs.Told.{takens_in}
 use Rattle.table_session.specs.Running.{IsRight, Run}
 use Rattle.table_session.specs.Hearing.{HearsLine}
 use Rattle.table_session.specs.declared.hearing.Asked.{Asked}
 
--- what the caller knew before the session, and the clock's reading then; what was told of source and sink then
+-- what the caller knew before the session, the clock's reading and the ids given then; what was told of source and sink then
 pub record Before : Type 0 where
   pub known : Knowledge
   pub reading : ℤ
+  pub differ : Bool
+  pub given : List ℕ
   pub taken : List ℕ
   pub left : List ℕ
   pub written : List ℕ
 
-abbrev pub before : Knowledge → ℤ → List ℕ → List ℕ → List ℕ → Before
-before known reading taken left written = record { known = known; reading = reading; taken = taken; left = left; written = written }
+abbrev pub before : Knowledge → ℤ → Bool → List ℕ → List ℕ → List ℕ → List ℕ → Before
+before known reading differ given taken left written =
+    record { known = known; reading = reading; differ = differ; given = given; taken = taken; left = left; written = written }
 
-pub record Talking (tells fixed in_tells out_tells : Bool) (b : Before) (k : Knowledge) (reading : ℤ) (taken left written : List ℕ) (at : At) : Type 0 where
+pub record Talking (tells fixed in_tells out_tells : Bool) (b : Before) (k : Knowledge) (reading : ℤ) (differ : Bool) (given taken left written : List ℕ) (at : At) : Type 0 where
   pub bytes : List ℕ
   pub handed : List (List ℕ)
   pub source : Takes in_tells b.taken b.left bytes taken left
@@ -40,6 +47,7 @@ pub record Talking (tells fixed in_tells out_tells : Bool) (b : Before) (k : Kno
   pub sink : written ≡ b.written ++ told out_tells (texts_of moments)
   pub readings : IsTrue fixed → All (λ x. x.reading ≡ b.reading) moments
   pub steady : IsTrue fixed → reading ≡ b.reading
+  pub names : IsTrue differ → NamesApart b.differ b.given given (takens_in moments) b.known k
 
 -- ---- the lines that ask, with one line more
 
@@ -89,9 +97,20 @@ pub lines_said : (handed : List (List ℕ)) (text : List ℕ) (xs : List Moment)
 lines_said handed text xs x e line said =
     lines_more xs x ∙ ap (λ l. lines_of xs ++ l ∷ []) line ∙ ap (λ ls. ls ++ numbered (length handed + 1) text ∷ []) e ∙ sym (asking_said handed text said)
 
+takens_more : (xs : List Moment) (x : Moment) → takens_in (xs ++ x ∷ []) ≡ takens_in xs ++ takens_of x.reply
+takens_more xs x = flat_map-append (λ (y : Moment). takens_of y.reply) xs (x ∷ []) ∙ ap (λ t. takens_in xs ++ t) (append-nil (takens_of x.reply))
+
+pub names_more : (differ0 differ differ' : Bool) (given0 given given' : List ℕ) (k0 k : Knowledge) (xs : List Moment) (x : Moment)
+    → (IsTrue differ → NamesApart differ0 given0 given (takens_in xs) k0 k) → (IsTrue differ' → NamesApart differ given given' (takens_of x.reply) k x.after)
+    → IsTrue differ' → NamesApart differ0 given0 given' (takens_in (xs ++ x ∷ [])) k0 x.after
+names_more differ0 differ differ' given0 given given' k0 k xs x before now t =
+    let late = now t in
+    apart_at differ0 given0 given' (takens_in xs ++ takens_of x.reply) (takens_in (xs ++ x ∷ [])) k0 x.after (sym (takens_more xs x))
+    (apart_both differ0 differ given0 given given' (takens_in xs) (takens_of x.reply) k0 k x.after (before late.before) late)
+
 -- ---- the turns of a session
 
-pub talking_start : (tells fixed in_tells out_tells : Bool) (b : Before) → Talking tells fixed in_tells out_tells b b.known b.reading b.taken b.left b.written at_start
+pub talking_start : (tells fixed in_tells out_tells : Bool) (b : Before) → Talking tells fixed in_tells out_tells b b.known b.reading b.differ b.given b.taken b.left b.written at_start
 talking_start tells fixed in_tells out_tells b = record {
   bytes = [];
   handed = [];
@@ -103,14 +122,15 @@ talking_start tells fixed in_tells out_tells b = record {
   sink = sym (ap (λ bs. b.written ++ bs) (told-nil out_tells) ∙ append-nil b.written);
   readings = λ _. All-nil (λ (y : Moment). y.reading ≡ b.reading);
   steady = λ _. refl;
+  names = λ t. apart_none b.differ b.given b.known b.known refl t;
 }
 
 -- a line that gets no reply
-pub talking_passed : (tells fixed in_tells out_tells : Bool) (b : Before) (k : Knowledge) (reading : ℤ) (taken left taken' left' written : List ℕ) (at at' : At) (a : Asked)
-    → (t : Talking tells fixed in_tells out_tells b k reading taken left written at) → (h : HearsLine in_tells taken left t.bytes t.handed a taken' left' at')
+pub talking_passed : (tells fixed in_tells out_tells : Bool) (b : Before) (k : Knowledge) (reading : ℤ) (differ : Bool) (given taken left taken' left' written : List ℕ) (at at' : At) (a : Asked)
+    → (t : Talking tells fixed in_tells out_tells b k reading differ given taken left written at) → (h : HearsLine in_tells taken left t.bytes t.handed a taken' left' at')
     → gets_reply (numbered (length t.handed + 1) h.text) ≡ false
-    → Talking tells fixed in_tells out_tells b k reading taken' left' written at'
-talking_passed tells fixed in_tells out_tells b k reading taken left taken' left' written at at' a t h passed = record {
+    → Talking tells fixed in_tells out_tells b k reading differ given taken' left' written at'
+talking_passed tells fixed in_tells out_tells b k reading differ given taken left taken' left' written at at' a t h passed = record {
   bytes = t.bytes ++ h.new;
   handed = t.handed ++ h.text ∷ [];
   source = takes_both in_tells b.taken b.left t.bytes taken left h.new taken' left' t.source h.takes;
@@ -121,16 +141,18 @@ talking_passed tells fixed in_tells out_tells b k reading taken left taken' left
   sink = t.sink;
   readings = t.readings;
   steady = t.steady;
+  names = t.names;
 }
 
 -- a line, its right reply, and the reply's text
-pub talking_said : (tells fixed in_tells out_tells : Bool) (b : Before) (k : Knowledge) (reading : ℤ) (taken left taken' left' written : List ℕ) (at at' : At) (a : Asked)
-    → (t : Talking tells fixed in_tells out_tells b k reading taken left written at) → (h : HearsLine in_tells taken left t.bytes t.handed a taken' left' at')
+pub talking_said : (tells fixed in_tells out_tells : Bool) (b : Before) (k : Knowledge) (reading : ℤ) (differ : Bool) (given taken left taken' left' written : List ℕ) (at at' : At) (a : Asked)
+    → (t : Talking tells fixed in_tells out_tells b k reading differ given taken left written at) → (h : HearsLine in_tells taken left t.bytes t.handed a taken' left' at')
     → gets_reply (numbered (length t.handed + 1) h.text) ≡ true
     → (x : Moment) → x.line ≡ numbered (length t.handed + 1) h.text → IsRight tells k x → (IsTrue fixed → x.reading ≡ reading)
+    → (differ' : Bool) (given' : List ℕ) → (IsTrue differ' → NamesApart differ given given' (takens_of x.reply) k x.after)
     → (text written' : List ℕ) → text ≡ reply_text_of x.reply → written' ≡ written ++ told out_tells text
-    → Talking tells fixed in_tells out_tells b x.after x.reading taken' left' written' at'
-talking_said tells fixed in_tells out_tells b k reading taken left taken' left' written at at' a t h said x line right steady text written' is put = record {
+    → Talking tells fixed in_tells out_tells b x.after x.reading differ' given' taken' left' written' at'
+talking_said tells fixed in_tells out_tells b k reading differ given taken left taken' left' written at at' a t h said x line right steady differ' given' names text written' is put = record {
   bytes = t.bytes ++ h.new;
   handed = t.handed ++ h.text ∷ [];
   source = takes_both in_tells b.taken b.left t.bytes taken left h.new taken' left' t.source h.takes;
@@ -141,4 +163,5 @@ talking_said tells fixed in_tells out_tells b k reading taken left taken' left' 
   sink = written_more out_tells b.written written written' text t.moments x is t.sink put;
   readings = λ f. readings_more b.reading t.moments x (t.readings f) (steady f ∙ t.steady f);
   steady = λ f. steady f ∙ t.steady f;
+  names = names_more b.differ differ differ' b.given given given' b.known k t.moments x t.names names;
 }

@@ -11,7 +11,8 @@ use Rattle.table_model.specs.Knowledge.{Knowledge}
 use Rattle.table_session.specs.Moments.{Moment, lines_of, texts_of}
 use Rattle.table_session.specs.Asking.{lines_asking}
 use Rattle.table_session.specs.Running.{Run}
-use Rattle.table_session.specs.Told.{Told}
+use Rattle.table_session.specs.Told.{Told, takens_in}
+use Rattle.writer_txn.specs.Named.{NamesApart}
 
 -- the first of a list of lines
 pub record IsFirstOf (lines whole : List Numbered) : Type 0 where
@@ -69,14 +70,16 @@ pub record Session (tells : Bool) (read wrote : List ℕ) (k m : Knowledge) (end
   pub all : moments ≡ said ++ unsaid
   pub wrote_is : Wrote wrote said unsaid ended
 
--- The same between a source and a sink, of which some bytes were read and written, and a clock; with Done nothing is left to read.
-pub record SessionOf (tells : Bool) (k m : Knowledge) (fixed : Bool) (reading : ℤ) (in_tells : Bool) (taken left taken' left' : List ℕ) (out_tells : Bool) (written written' : List ℕ) (ended : End) : Type 0 where
+-- The same between a source and a sink, of which some bytes were read and written, a clock, and ids: where these are all told to differ
+-- afterwards, no name of a Taken reply was put in the session. With Done nothing is left to read.
+pub record SessionOf (tells : Bool) (k m : Knowledge) (fixed : Bool) (reading : ℤ) (differ : Bool) (given : List ℕ) (differ' : Bool) (given' : List ℕ) (in_tells : Bool) (taken left taken' left' : List ℕ) (out_tells : Bool) (written written' : List ℕ) (ended : End) : Type 0 where
   pub read : List ℕ
   pub wrote : List ℕ
   pub session : Session tells read wrote k m ended
   pub source : Takes in_tells taken left read taken' left'
   pub sink : written' ≡ written ++ told out_tells wrote
   pub clock : IsTrue fixed → All (λ x. x.reading ≡ reading) session.moments
+  pub names : IsTrue differ' → NamesApart differ given given' (takens_in session.moments) k m
   pub whole : ended ≡ end.Done → IsTrue in_tells → left' ≡ []
 
 -- a count that never falls, and went up where this holds

@@ -13,6 +13,10 @@ use Rattle.table_session.specs.Standing.{Stands}
 abbrev pub versions_in : List Moment → List ℕ
 versions_in moments = flat_map (λ x. versions_of x.reply) moments
 
+-- the names that Taken replies tell, in order
+abbrev pub takens_in : List Moment → List LogName
+takens_in moments = flat_map (λ x. takens_of x.reply) moments
+
 -- a number of each reply, added up
 abbrev pub total : (Reply → ℕ) → List Moment → ℕ
 total worth [] = 0

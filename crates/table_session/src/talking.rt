@@ -28,7 +28,7 @@ pub fn session<T: Steps, I: Source, O: Sink, C: Clock, U: Ids>(
 ) -> End
     // Publishing is not built yet, so as many commits may be unpublished as there may be versions.
     requires { IfSome (T.known caller.old).terms (λ t. t.limits.versions ≤ t.limits.unpublished) }
-    ensures session { SessionOf T.tells (T.known caller.old) (T.known caller.new) C.fixed (C.reading clock.old) I.tells (I.taken source.old) (I.left source.old) (I.taken source.new) (I.left source.new) O.tells (O.written sink.old) (O.written sink.new) result }
+    ensures session { SessionOf T.tells (T.known caller.old) (T.known caller.new) C.fixed (C.reading clock.old) (U.differ ids.old) (U.given ids.old) (U.differ ids.new) (U.given ids.new) I.tells (I.taken source.old) (I.left source.old) (I.taken source.new) (I.left source.new) O.tells (O.written sink.old) (O.written sink.new) result }
     ensures read_cause { IsCaused (result ≡ end.ReadFault) (I.faults source.old) (I.faults source.new) }
     ensures write_cause { IsCaused (result ≡ end.WriteFault) (O.faults sink.old) (O.faults sink.new) }
     ensures grows { IsGrown (T.known caller.old) (T.known caller.new) }

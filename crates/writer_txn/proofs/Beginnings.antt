@@ -72,6 +72,7 @@ loaded_underway lists versions latest k m asked only g last =
       tries_below = All-nil (λ t. t.version < length m.seen);
       put = record { rest = []; is = ap (λ (x : Knowledge). x.put) only.same ∙ sym (append-nil k.put) };
       put_below = λ v i h. (let within = h.1 in absurd (omega (arith, within)));
+      kept = only.kept;
     }
 
 pub load_refused_stands : (tells : Bool) (intent : Intent) (e : LoadError) (reading : ℤ) (last : ℕ) (log : List Commit) → WriteStands tells intent (Err (of_load e)) reading last log

@@ -57,6 +57,7 @@ reading_leaves lists versions k m h = record {
   mine = ap (λ (x : Knowledge). x.mine) h.same;
   tries = ap (λ (x : Knowledge). x.tries) h.same;
   put = ap (λ (x : Knowledge). x.put) h.same;
+  kept = h.kept;
 }
 
 -- the commits that were read are all that is seen

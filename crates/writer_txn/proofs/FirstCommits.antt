@@ -182,6 +182,11 @@ taken_now tells c id k j m asked none e =
         is = ap (λ (x : Knowledge). x.put) e ∙ ap (λ (x : Knowledge). x.put) asked.same ∙ sym (append-nil k.put);
       };
       foreign = λ h. (let less = h.1 in absurd (omega (arith, less)));
+      kept = record {
+        rest = [];
+        is = ap (λ (x : Knowledge). x.kept) e ∙ ap (λ (x : Knowledge). x.kept) asked.same ∙ sym (append-nil k.kept);
+      };
+      unlearnt = λ bytes h. (let less = h.1 in absurd (omega (arith, less)));
     }
 
 -- the proposal was refused

@@ -1,5 +1,6 @@
 pub mod Lasting
 pub mod Proposals
+pub mod Naming
 pub mod FirstCommits
 pub mod Judgements
 pub mod Underway

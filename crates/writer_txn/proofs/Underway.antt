@@ -2,7 +2,7 @@
 use Rattle.std.proofs.Common.{◌≡◌, ◌<◌, ◌≤◌, ◌+◌, ◌⊎◌, inl, inr, ℕ, ℤ, Bool, IsTrue, List, [], ◌∷◌, ◌++◌, length, take, refl, sym, ◌∙◌, ap, subst, arith, length-append, append_assoc}
 use Rattle.std.specs.Prelude.{Option, Some, IfSome, IsSomeAnd, Contains, Result, Ok, Err}
 use Rattle.std.specs.List.{All}
-use Rattle.std.proofs.lemmas.List.Elements.{Contains-push, Contains-push_cases, All-push}
+use Rattle.std.proofs.lemmas.List.Elements.{Contains-push, Contains-push_cases, All-push, All-contains}
 use Rattle.std.proofs.lemmas.List.Quantifiers.{all_pairs_push}
 use Rattle.log_names.specs.declared.LogName.{LogName}
 use Rattle.log_names.specs.declared.LogName.TheVariants as name
@@ -24,11 +24,14 @@ use Rattle.table_model.specs.declared.answers.StepFault.TheVariants as step
 use Rattle.table_model.specs.declared.known.Try.{Try}
 use Rattle.table_model.specs.declared.known.Refusal.TheVariants as refusal
 use Rattle.table_model.specs.Log.{Commit, commit_at, no_commit, history, IsNextCommit, commit_time}
-use Rattle.table_model.specs.Knowledge.{Knowledge, Terms, IsGrown}
+use Rattle.table_model.specs.Knowledge.{Knowledge, Terms, IsGrown, Triple}
+use Rattle.table_model.specs.Conditions.{triple}
 use Rattle.table_model.proofs.Growing.{grows_trans, grows_refl}
 use Rattle.table_model.specs.declared.answers.Spot.{Spot}
 use Rattle.snapshot_load.specs.Causes.{FaultCause}
+use Rattle.snapshot_load.specs.Reading.{KeepsBelow}
 use Rattle.snapshot_load.proofs.Causing.{failed_later}
+use Rattle.snapshot_load.proofs.Keeping.{keeps_one, keeps_both}
 use Rattle.std.proofs.Math.Seq.{get_or-append_seam}
 use Rattle.writer_txn.specs.declared.attempts.Front.{Front}
 use Rattle.writer_txn.specs.declared.attempts.Outcome.{Outcome}
@@ -230,6 +233,10 @@ name_taken base tried version id k j m u g at e =
       noted = Contains-push u.grows.takens.rest (name.Staged version id);
       put = record { rest = u.put.rest; is = ap (λ (x : Knowledge). x.put) e ∙ u.put.is };
       foreign = λ h. (let below = u.put_below version id h in absurd (omega (arith, at, below)));
+      kept = record { rest = u.kept.kept.rest; is = ap (λ (x : Knowledge). x.kept) e ∙ u.kept.kept.is };
+      unlearnt = λ bytes h.
+          (let below : version < length j.seen = All-contains (λ (t : Triple). t.version < length j.seen) u.kept.kept.rest (triple version id bytes) u.kept.below h in
+          absurd (omega (arith, at, below)));
     }
 
 -- the proposal was refused
@@ -261,6 +268,13 @@ pushed_name : (names : List LogName) (version id v i bound later : ℕ) → vers
 pushed_name names version id v i bound later at less below h =
     pushed_name_at names version id v i bound later at less below (Contains-push_cases names (name.Staged version id) (name.Staged v i) h)
 
+-- the file that was staged, and those that were read since
+lost_kept : (version id latest : ℕ) (bytes : List ℕ) (k j p m : Knowledge) → KeepsBelow (length j.seen) k j → version ≡ length j.seen → HasLost version id latest bytes j p
+    → KeepsBelow (length m.seen) p m → length j.seen < length m.seen → KeepsBelow (length m.seen) k m
+lost_kept version id latest bytes k j p m before at lost since longer =
+    let staged : KeepsBelow (length m.seen) j p = keeps_one (length m.seen) version id bytes j p (omega (arith, at, longer)) (ap (λ (x : Knowledge). x.kept) lost.same) in
+    keeps_both (length m.seen) (length m.seen) k p m (omega arith) (keeps_both (length j.seen) (length m.seen) k j p (omega (arith, longer)) before staged) since
+
 -- a refused try more
 lost_tries : (base tried version id latest : ℕ) (bytes : List ℕ) (k j p m : Knowledge) → IsUnderway base tried k j → IsGrown j m → version ≡ length j.seen
     → HasLost version id latest bytes j p → LeavesOwn p m → length j.seen < length m.seen → IsUnderway base (tried + 1) k m
@@ -287,6 +301,7 @@ lost_tries base tried version id latest bytes k j p m u g at lost own longer =
             ∙ append_assoc k.put u.put.rest (name.Staged version id ∷ []);
       };
       put_below = λ v i h. pushed_name u.put.rest version id v i (length j.seen) (length m.seen) at longer u.put_below h;
+      kept = lost_kept version id latest bytes k j p m u.kept at lost own.kept longer;
     }
 
 cause_since : (tells : Bool) (at : Spot) (k p m : Knowledge) → IsGrown k p → FaultCause tells at p m → FaultCause tells at k m

@@ -3,6 +3,7 @@ use Rattle.std.specs.Prelude.{◌≡◌, ◌≤ℤ◌, ◌<ℤ◌, ◌+◌, ℕ,
 use Rattle.conflict_rules.specs.declared.intent.Intent.{Intent}
 use Rattle.table_model.specs.Knowledge.{Knowledge}
 use Rattle.snapshot_load.specs.Causes.{FaultCause}
+use Rattle.snapshot_load.specs.Reading.{KeepsBelow}
 use Rattle.writer_txn.specs.declared.attempts.Outcome.{Outcome}
 use Rattle.writer_txn.specs.declared.attempts.Outcome.TheVariants as outcome
 use Rattle.writer_txn.specs.declared.answers.Written.TheVariants as written
@@ -41,11 +42,12 @@ JudgedFrom base latest (Err (failed.Taken b version id)) = ⊥
 JudgedFrom base latest (Err (failed.Fault at)) = ⊥
 JudgedFrom base latest (Err failed.Memory) = ⊤
 
--- nothing that the caller did itself changed
+-- nothing that the caller did itself changed, and the staged files that became known are of ratified versions
 pub record LeavesOwn (k m : Knowledge) : Type 0 where
   pub mine : m.mine ≡ k.mine
   pub tries : m.tries ≡ k.tries
   pub put : m.put ≡ k.put
+  pub kept : KeepsBelow (length m.seen) k m
 
 -- the version named is the last one that is seen
 pub record NamesSeen (base b l : ℕ) (m : Knowledge) : Type 0 where

@@ -5,5 +5,6 @@ pub mod Writing
 pub mod Moments
 pub mod Refusing
 pub mod Proposing
+pub mod Named
 pub mod Trying
 pub mod Judging

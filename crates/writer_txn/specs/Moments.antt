@@ -1,9 +1,10 @@
 -- What an answer says of its moment: of what the caller knew before the call, k, and knows after it, m.
-use Rattle.std.specs.Prelude.{◌≡◌, ◌<◌, ◌≤◌, ◌+◌, ◌++◌, ◌∷◌, [], ℕ, length, Bool, Contains, Option, Some, None, IfSome, Result, Ok, Err}
+use Rattle.std.specs.Prelude.{◌≡◌, ◌<◌, ◌≤◌, ◌+◌, ◌++◌, ◌∷◌, [], ℕ, List, length, Bool, Contains, Option, Some, None, IfSome, Result, Ok, Err}
 use Rattle.std.specs.List.{AllPairs}
 use Rattle.log_names.specs.declared.LogName.TheVariants as name
 use Rattle.table_model.specs.declared.answers.Spot.{Spot}
 use Rattle.table_model.specs.Knowledge.{Knowledge, StartsWith}
+use Rattle.table_model.specs.Conditions.{triple}
 use Rattle.snapshot_load.specs.Causes.{FaultCause}
 use Rattle.writer_txn.specs.declared.answers.Written.{Written}
 use Rattle.writer_txn.specs.declared.answers.Written.TheVariants as written
@@ -73,7 +74,7 @@ pub record IsTooLarge (base : Option ℕ) (bytes : ℕ) (k m : Knowledge) : Type
   pub from : StopsAt base k m
   pub limit : IfSome m.terms (λ t. t.limits.bytes < bytes)
 
--- the staging of this name, of the version after all that is seen, was refused in this call, which had not put it before
+-- the staging of this name, of the version after all that is seen, was refused in this call, which had neither put it nor learnt of a file of it
 pub record IsTaken (base : Option ℕ) (version id : ℕ) (k m : Knowledge) : Type 0 where
   pub from : StopsAt base k m
   pub next : version ≡ length m.seen
@@ -81,6 +82,8 @@ pub record IsTaken (base : Option ℕ) (version id : ℕ) (k m : Knowledge) : Ty
   pub noted : Contains takens.rest (name.Staged version id)
   pub put : StartsWith m.put k.put
   pub foreign : ¬ (Contains put.rest (name.Staged version id))
+  pub kept : StartsWith m.kept k.kept
+  pub unlearnt : (bytes : List ℕ) → ¬ (Contains kept.rest (triple version id bytes))
 
 pub record HasFailed (tells : Bool) (at : Spot) (k m : Knowledge) : Type 0 where
   pub cause : FaultCause tells at k m

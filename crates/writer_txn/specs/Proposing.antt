@@ -1,10 +1,11 @@
 -- What comes of a commit that is staged for the next version and handed to the catalogue.
-use Rattle.std.specs.Prelude.{◌≡◌, ◌<◌, ◌≤◌, ◌+◌, ◌++◌, ◌∷◌, [], ℕ, List, length, Bool, IsTrue, IfSome, IsSomeAnd, Option, Result, Ok, Err, ⊤}
+use Rattle.std.specs.Prelude.{◌≡◌, ◌<◌, ◌≤◌, ◌+◌, ◌++◌, ◌∷◌, [], ℕ, List, length, Bool, IsTrue, IfSome, IsSomeAnd, Contains, Option, Result, Ok, Err, ⊤}
+use Rattle.log_names.specs.declared.LogName.{LogName}
 use Rattle.log_names.specs.declared.LogName.TheVariants as name
 use Rattle.table_model.specs.declared.answers.StepFault.{StepFault}
 use Rattle.table_model.specs.declared.answers.StepFault.TheVariants as step
 use Rattle.table_model.specs.declared.known.Refusal.TheVariants as refusal
-use Rattle.table_model.specs.Knowledge.{Knowledge, Terms}
+use Rattle.table_model.specs.Knowledge.{Knowledge, Terms, StartsWith}
 use Rattle.table_model.specs.Conditions.{triple}
 use Rattle.snapshot_load.specs.Causes.{FailedAt}
 use Rattle.writer_txn.specs.declared.proposing.Proposed.{Proposed}
@@ -13,6 +14,11 @@ use Rattle.writer_txn.specs.declared.proposing.Proposed.TheVariants as proposed
 -- the terms are known, and where the backlog is at its limit at this version, so is the table; of a first commit nothing is asked
 abbrev pub HasRoom : ℕ → Option Terms → Type 0
 HasRoom version terms = 0 < version → IsSomeAnd terms (λ t. t.limits.unpublished ≤ version → t.limits.versions ≤ version)
+
+-- no other name than this one was put
+pub record PutsOnly (n : LogName) (k m : Knowledge) : Type 0 where
+  pub put : StartsWith m.put k.put
+  pub only : (x : LogName) → Contains put.rest x → x ≡ n
 
 -- the commit was staged
 abbrev pub staged_noted : ℕ → ℕ → List ℕ → Knowledge → Knowledge

@@ -4,6 +4,7 @@ use Rattle.std.specs.List.{AllPairs, All}
 use Rattle.log_names.specs.declared.LogName.TheVariants as name
 use Rattle.reconcile.specs.Standing.{StandsFor}
 use Rattle.conflict_rules.specs.declared.intent.Intent.{Intent}
+use Rattle.snapshot_load.specs.Reading.{KeepsBelow}
 use Rattle.table_model.specs.Log.{Commit}
 use Rattle.table_model.specs.Knowledge.{Knowledge, StartsWith, IsGrown}
 use Rattle.writer_txn.specs.Fronts.{before, IsNewer, first_clash}
@@ -24,7 +25,7 @@ pub record IsFrontOf (tells : Bool) (intent : Intent) (f : Front) (log : List Co
   pub conflicts : IsTrue tells → first_clash intent f.base (f.latest + 1) log ≡ None
 
 -- So many tries of this call were refused, each at a later version than the one before it, and nothing became the caller's
--- own. What it tried and put is of versions that are seen now.
+-- own. What it tried and put, and the staged files that it learnt of, are of versions that are seen now.
 pub record IsUnderway (base tried : ℕ) (k m : Knowledge) : Type 0 where
   pub grows : IsGrown k m
   pub front_is : IsFront (base + 1) k m
@@ -35,6 +36,7 @@ pub record IsUnderway (base tried : ℕ) (k m : Knowledge) : Type 0 where
   pub tries_below : All (λ t. t.version < length m.seen) tries.rest
   pub put : StartsWith m.put k.put
   pub put_below : (version id : ℕ) → Contains put.rest (name.Staged version id) → version < length m.seen
+  pub kept : KeepsBelow (length m.seen) k m
 
 -- all that is seen was taken in
 pub record GoesOn (base tried : ℕ) (f : Front) (k m : Knowledge) : Type 0 where

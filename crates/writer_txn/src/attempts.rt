@@ -8,6 +8,7 @@ ghost use Rattle.table_model.specs.Log.{Commit};
 ghost use Rattle.table_model.specs.Knowledge.{Knowledge, IsGrown, IsValid};
 ghost use Rattle.snapshot_load.specs.Snapshots.{AreWinners};
 ghost use Rattle.writer_txn.specs.Judging.{IsReached, JudgedFrom, CaughtNow, LeavesOwn, GoesFrom};
+ghost use Rattle.writer_txn.specs.Named.{NamesApart, taken_names};
 ghost use Rattle.writer_txn.specs.Refusing.{of_compose};
 ghost use Rattle.writer_txn.specs.Trying.{IsFrontOf, IsUnderway, AttemptStands, AttemptNow};
 
@@ -169,6 +170,7 @@ pub(crate) fn attempt<T: Steps, C: Clock, U: Ids>(
     ensures now { (k : Knowledge) (tried : ℕ) → IsUnderway front.base tried k (T.known caller.old) → AttemptNow T.tells front.base tried result k (T.known caller.new) }
     ensures goes { GoesFrom front.base result (T.known caller.new) }
     ensures steady { IsTrue C.fixed → C.reading clock.new ≡ C.reading clock.old }
+    ensures names { IsTrue (U.differ ids.new) → NamesApart (U.differ ids.old) (U.given ids.old) (U.given ids.new) (taken_names result) (T.known caller.old) (T.known caller.new) }
     ensures grows { IsGrown (T.known caller.old) (T.known caller.new) }
     ensures valid { IsValid (T.known caller.new) }
     ensures after { T.after caller.old caller.new }

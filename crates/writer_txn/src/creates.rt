@@ -4,6 +4,7 @@ ghost use Rattle.staged_commit.specs.Composed.{IsCreate, composed_create};
 ghost use Rattle.table_model.specs.Knowledge.{IsGrown, IsValid};
 ghost use Rattle.writer_txn.specs.Creating.{CreateStands};
 ghost use Rattle.writer_txn.specs.Moments.{WrittenNow};
+ghost use Rattle.writer_txn.specs.Named.{NamesApart, taken_names};
 ghost use Rattle.writer_txn.specs.Refusing.{CreateRefused};
 
 use crate::answers::Written;
@@ -53,6 +54,7 @@ pub fn create<T: Steps, C: Clock, U: Ids>(
     ensures stands { CreateStands T.tells what.now result (C.reading clock.new) (U.last ids.new) (T.known caller.new).seen }
     ensures now { WrittenNow T.tells result (T.known caller.old) (T.known caller.new) }
     ensures steady { IsTrue C.fixed → C.reading clock.new ≡ C.reading clock.old }
+    ensures names { IsTrue (U.differ ids.new) → NamesApart (U.differ ids.old) (U.given ids.old) (U.given ids.new) (taken_names result) (T.known caller.old) (T.known caller.new) }
     ensures grows { IsGrown (T.known caller.old) (T.known caller.new) }
     ensures valid { IsValid (T.known caller.new) }
     ensures after { T.after caller.old caller.new }

@@ -5,6 +5,7 @@ pub returns-clause-run : goal.returns-clause-run
 returns-clause-run g c =
     held_by _ c.args.world.files g.S.Store.tells c.args.world c.into_world.result c.new-solo.result c.session-end.new.caller c.settle-status.new.caller
     g.C.Clock.fixed (g.C.Clock.reading c.args.clock.now)
+    (g.U.Ids.differ c.args.ids.now) (g.U.Ids.given c.args.ids.now) (g.U.Ids.differ c.session-end.new.ids) (g.U.Ids.given c.session-end.new.ids)
     g.I.Source.tells (g.I.Source.taken c.args.source.now) (g.I.Source.left c.args.source.now) (g.I.Source.taken c.session-end.new.source) (g.I.Source.left c.session-end.new.source)
     g.O.Sink.tells (g.O.Sink.written c.args.sink.now) (g.O.Sink.written c.session-end.new.sink)
     c.session-end.result c.settle-status.result

@@ -1,8 +1,9 @@
-use Rattle.std.proofs.Common.{rules, ◌+◌, vec_len, arith, ◌∙◌}
-use Rattle.table_model.proofs.Growing.{grows_trans}
+use Rattle.std.proofs.Common.{rules, ◌+◌, ◌*◌, vec_len, arith, ◌∙◌}
+use Rattle.table_model.proofs.Growing.{grows_refl, grows_trans}
 use Rattle.snapshot_load.specs.Causes.{ReadCause}
 use Rattle.snapshot_load.proofs.Causing.{cause_later}
-use Rattle.snapshot_load.proofs.Replaying.{reads_version, catalogue_kept, winners_step, winners_all, sound_kept}
+use Rattle.snapshot_load.proofs.Keeping.{reads_up}
+use Rattle.snapshot_load.proofs.Replaying.{reads_none, reads_more, reads_version, catalogue_kept, winners_step, winners_all, sound_kept}
 use Rattle.snapshot_load.proofs.above.actions_above.Goals as goal
 
 pub version_actions-requires-clause-place : goal.version_actions-requires-clause-place
@@ -39,3 +40,23 @@ returns-clause-actions g c = λ t.
 
 pub version_actions-requires-clause-sound : goal.version_actions-requires-clause-sound
 version_actions-requires-clause-sound g c = sound_kept _ _ _ _ c.loop-version.invariant.reads c.requires.sound
+
+pub returns-in_err-actions-clause-reads : goal.returns-in_err-actions-clause-reads
+returns-in_err-actions-clause-reads g c =
+    reads_up (2 * vec_len c.loop-version.winners + 2) _ _ _ (omega (arith, c.loop-version-test.true, c.loop-version.auto.version-end, c.loop-version.invariant.count))
+    (reads_more _ 2 _ _ _ c.loop-version.invariant.reads c.in_err-actions.ensures.reads)
+
+pub returns-in_err-push-clause-reads : goal.returns-in_err-push-clause-reads
+returns-in_err-push-clause-reads g c =
+    reads_up (2 * vec_len c.loop-version.winners + 2) _ _ _ (omega (arith, c.loop-version-test.true, c.loop-version.auto.version-end, c.loop-version.invariant.count))
+    (reads_more _ 2 _ _ _ c.loop-version.invariant.reads c.in_ok-actions.ensures.reads)
+
+pub loop-version-init : goal.loop-version-init
+loop-version-init g c = record {
+  reads = reads_up 0 _ _ _ (omega arith) (reads_none _);
+  grows = grows_refl _;
+  valid = c.requires.valid;
+  after = g.met.T.Steps.after_same _;
+  count = search rules;
+  actions = search rules;
+}

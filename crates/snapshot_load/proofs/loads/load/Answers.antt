@@ -1,4 +1,4 @@
-use Rattle.std.proofs.Common.{rules, ◌<◌, ◌∙◌, ℕ, arith, length, subst, sym, ap, ℤ, pos, Option}
+use Rattle.std.proofs.Common.{rules, ◌≤◌, ◌*◌, ◌<◌, ◌∙◌, ℕ, arith, length, subst, sym, ap, ℤ, pos, Option}
 use Rattle.std.specs.Int.{w64}
 use Rattle.std.proofs.lemmas.Int.{to_z-of_z}
 use Rattle.std.specs.Prelude.{Contains, unwrap_or}
@@ -6,6 +6,8 @@ use Rattle.log_names.specs.declared.LogName.TheVariants as name
 use Rattle.snapshot_load.specs.Causes.{LoadCause}
 use Rattle.snapshot_load.specs.Converting.{of_fault}
 use Rattle.snapshot_load.proofs.Causing.{load_cause, read_refused, seen_more}
+use Rattle.snapshot_load.proofs.Keeping.{loads_refused, loads_asked, loads_listed, loads_unlisted, loads_read}
+use Rattle.snapshot_load.proofs.Replaying.{seen_same}
 use Rattle.snapshot_load.proofs.Listing.{listed_published}
 use Rattle.table_model.proofs.Growing.{grows_trans}
 use Rattle.table_model.specs.Knowledge.{Knowledge}
@@ -50,3 +52,28 @@ returns-clause-loaded g c =
     (c.in_ok-commits.ensures.learns.count ∙ sym (ap (λ (k : Knowledge). length k.seen) c.in_ok-names.ensures.learns.same))
     c.in_ok-state.ensures.reads c.if-commits-eq0.false c.in_ok-state.ensures.state c.in_ok-state.ensures.time
     (to_z-of_z w64 c.unwrap_or-time.result (search rules) ∙ c.unwrap_or-time.ensures ∙ ap (λ (o : Option ℤ). unwrap_or o (pos 0)) c.time.ensures)
+
+pub returns-in_err-commits-clause-turns : goal.returns-in_err-commits-clause-turns
+returns-in_err-commits-clause-turns g c = loads_refused 1 _ _ c.in_err-commits.field-0.0 _ c.in_err-commits.ensures.learns
+
+pub returns-then-commits-eq0-clause-turns : goal.returns-then-commits-eq0-clause-turns
+returns-then-commits-eq0-clause-turns g c = loads_asked _ 1 _ _ _ _ c.in_ok-commits.ensures.learns
+
+pub returns-in_err-names-clause-turns : goal.returns-in_err-names-clause-turns
+returns-in_err-names-clause-turns g c = loads_unlisted _ _ _ _ c.in_err-names.field-0.0 _ (loads_asked _ 0 0 _ _ _ c.in_ok-commits.ensures.learns) c.in_err-names.ensures.learns
+
+pub returns-in_err-state-clause-turns : goal.returns-in_err-state-clause-turns
+returns-in_err-state-clause-turns g c =
+    let listed = loads_listed _ 0 _ _ _ _ (loads_asked _ 0 0 _ _ _ c.in_ok-commits.ensures.learns) c.in_ok-names.ensures.learns in
+    let count = c.in_ok-commits.ensures.learns.count in
+    let same = ap (λ (k : Knowledge). length k.seen) c.in_ok-names.ensures.learns.same in
+    let seen = ap length (seen_same _ _ _ c.in_err-state.ensures.reads) in
+    loads_read 1 _ _ _ _ _ listed c.in_err-state.ensures.reads (omega (arith, count, same, seen))
+
+pub returns-clause-turns : goal.returns-clause-turns
+returns-clause-turns g c =
+    let listed = loads_listed _ 0 _ _ _ _ (loads_asked _ 0 0 _ _ _ c.in_ok-commits.ensures.learns) c.in_ok-names.ensures.learns in
+    let count = c.in_ok-commits.ensures.learns.count in
+    let same = ap (λ (k : Knowledge). length k.seen) c.in_ok-names.ensures.learns.same in
+    let seen = ap length (seen_same _ _ _ c.in_ok-state.ensures.reads) in
+    loads_read 1 _ _ _ _ _ listed c.in_ok-state.ensures.reads (omega (arith, count, same, seen))

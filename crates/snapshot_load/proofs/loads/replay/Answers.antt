@@ -1,10 +1,11 @@
-use Rattle.std.proofs.Common.{rules, ◌≡◌, ℕ, take, arith, ◌∙◌, subst}
+use Rattle.std.proofs.Common.{rules, ◌≡◌, ◌+◌, ◌*◌, ℕ, take, arith, ◌∙◌, subst}
 use Rattle.reconcile.specs.Standing.{StandsFor}
 use Rattle.table_model.specs.Log.{history}
-use Rattle.table_model.proofs.Growing.{grows_trans}
+use Rattle.table_model.proofs.Growing.{grows_refl, grows_trans}
 use Rattle.snapshot_load.specs.Causes.{ReadCause}
 use Rattle.snapshot_load.proofs.Causing.{cause_later}
-use Rattle.snapshot_load.proofs.Replaying.{reads_version, catalogue_kept, replayed_more, replayed_all, sound_kept, state_time}
+use Rattle.snapshot_load.proofs.Keeping.{reads_up}
+use Rattle.snapshot_load.proofs.Replaying.{reads_none, reads_more, reads_version, catalogue_kept, replayed_more, replayed_all, sound_kept, state_time}
 use Rattle.snapshot_load.proofs.loads.replay.Goals as goal
 
 pub version_actions-requires-clause-place : goal.version_actions-requires-clause-place
@@ -46,3 +47,22 @@ pub returns-clause-state : goal.returns-clause-state
 returns-clause-state g c = λ t.
     let now = catalogue_kept _ _ _ _ c.loop-version.invariant.reads c.loop-version.invariant.grows.published c.requires.catalogue in
     replayed_all _ _ c.loop-version.version (omega (arith, c.loop-version-test.false, now.count)) (c.loop-version.invariant.state t)
+
+pub loop-version-init : goal.loop-version-init
+loop-version-init g c = record {
+  reads = reads_none _;
+  grows = grows_refl _;
+  valid = c.requires.valid;
+  after = g.met.T.Steps.after_same _;
+  state = search rules;
+}
+
+pub returns-in_err-actions-clause-reads : goal.returns-in_err-actions-clause-reads
+returns-in_err-actions-clause-reads g c =
+    reads_up (2 * c.loop-version.version + 2) _ _ _ (omega (arith, c.loop-version-test.true, c.loop-version.auto.version-end))
+    (reads_more _ 2 _ _ _ c.loop-version.invariant.reads c.in_err-actions.ensures.reads)
+
+pub returns-in_err-state-clause-reads : goal.returns-in_err-state-clause-reads
+returns-in_err-state-clause-reads g c =
+    reads_up (2 * c.loop-version.version + 2) _ _ _ (omega (arith, c.loop-version-test.true, c.loop-version.auto.version-end))
+    (reads_more _ 2 _ _ _ c.loop-version.invariant.reads c.in_ok-actions.ensures.reads)

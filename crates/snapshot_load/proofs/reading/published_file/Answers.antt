@@ -1,6 +1,20 @@
 use Rattle.std.proofs.Common.{inr}
 use Rattle.snapshot_load.proofs.Causing.{read_refused, untold_file}
+use Rattle.snapshot_load.proofs.Keeping.{reads_published, reads_absent, reads_fault}
 use Rattle.snapshot_load.proofs.reading.published_file.Goals as goal
+
+pub returns-in-Ok-Whole-clause-reads : goal.returns-in-Ok-Whole-clause-reads
+returns-in-Ok-Whole-clause-reads g c =
+    let learnt = rw c.in-Ok-Whole.field-0-is at c.in-Ok-Whole.ensures.learns in
+    reads_published _ _ _ _ _ learnt
+
+pub returns-in-Ok-Absent-clause-reads : goal.returns-in-Ok-Absent-clause-reads
+returns-in-Ok-Absent-clause-reads g c =
+    let learnt = rw c.in-Ok-Absent.field-0-is at c.in-Ok-Absent.ensures.learns in
+    reads_absent _ _ _ _ learnt
+
+pub returns-in-Err-clause-reads : goal.returns-in-Err-clause-reads
+returns-in-Err-clause-reads g c = reads_fault _ _ _ _ c.in-Err.ensures.learns
 
 pub returns-in-Ok-Absent-clause-cause : goal.returns-in-Ok-Absent-clause-cause
 returns-in-Ok-Absent-clause-cause g c =

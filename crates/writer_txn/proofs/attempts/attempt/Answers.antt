@@ -12,6 +12,10 @@ use Rattle.writer_txn.specs.Writing.{WriteStands}
 use Rattle.writer_txn.specs.Judging.{GoesFrom}
 use Rattle.writer_txn.proofs.Underway.{refused_write, refused_write_now, append_next, append_timed, room_for, written_stands, written_now, full_now, name_taken, attempt_stopped, caught_attempt}
 use Rattle.writer_txn.proofs.Catching.{goes_on, front_longer, full_stands, name_stands, within_limit}
+use Rattle.std.proofs.Common.{refl}
+use Rattle.log_names.specs.declared.LogName.TheVariants as name
+use Rattle.writer_txn.specs.Named.{NamesApart, names_taken}
+use Rattle.writer_txn.proofs.Naming.{puts_none, puts_kept, apart_put, apart_taken, apart_at, apart_err, names_of_compose, names_of_fault, names_of_caught}
 use Rattle.writer_txn.proofs.attempts.attempt.Goals as goal
 
 pub returns-in-Err-clause-stands : goal.returns-in-Err-clause-stands
@@ -103,3 +107,30 @@ pub returns-in_err-propose-clause-goes : goal.returns-in_err-propose-clause-goes
 returns-in_err-propose-clause-goes g c =
     let i : GoesFrom c.args.front.base (Err (of_fault c.in_err-propose.field-0.0)) (g.T.Steps.known c.propose.new.caller) = tt in
     search rules
+
+pub returns-in-Err-clause-names : goal.returns-in-Err-clause-names
+returns-in-Err-clause-names g c = λ t.
+    let i : NamesApart (g.U.Ids.differ c.args.ids.now) (g.U.Ids.given c.args.ids.now) (g.U.Ids.given c.next-id.new.self) (names_taken (of_compose c.args.front.base c.in-Err.error))
+    (g.T.Steps.known c.args.caller.now) (g.T.Steps.known c.args.caller.now) =
+    apart_at _ _ _ _ _ _ _ (names_of_compose c.args.front.base c.in-Err.error) (apart_put _ _ 0 c.next-id.result _ _ _ (c.next-id.ensures.new t) (puts_none (name.Staged 0 c.next-id.result) _ _ refl)) in
+    rw c.refused.ensures i
+
+pub returns-in_err-propose-clause-names : goal.returns-in_err-propose-clause-names
+returns-in_err-propose-clause-names g c = λ t.
+    apart_err _ _ _ c.from_residual.result (of_fault c.in_err-propose.field-0.0) _ _ c.from_residual.ensures.1
+    (apart_at _ _ _ _ _ _ _ (names_of_fault c.in_err-propose.field-0.0) (apart_put _ _ _ c.next-id.result _ _ _ (c.next-id.ensures.new t) c.in_err-propose.ensures.puts))
+
+pub returns-in-Done-clause-names : goal.returns-in-Done-clause-names
+returns-in-Done-clause-names g c = λ t. apart_put _ _ _ c.next-id.result _ _ _ (c.next-id.ensures.new t) c.in_ok-propose.ensures.puts
+
+pub returns-in-Lost-clause-names : goal.returns-in-Lost-clause-names
+returns-in-Lost-clause-names g c = λ t.
+    apart_at _ _ _ _ _ _ _ (names_of_caught g.T.Steps.tells c.args.front.base c.caught_up.result _ _ c.caught_up.ensures.caught)
+    (apart_put _ _ _ c.next-id.result _ _ _ (c.next-id.ensures.new t) (puts_kept _ _ _ _ c.in_ok-propose.ensures.puts c.caught_up.ensures.own.put))
+
+pub returns-in-Full-clause-names : goal.returns-in-Full-clause-names
+returns-in-Full-clause-names g c = λ t. apart_put _ _ _ c.next-id.result _ _ _ (c.next-id.ensures.new t) c.in_ok-propose.ensures.puts
+
+pub returns-in-Taken-clause-names : goal.returns-in-Taken-clause-names
+returns-in-Taken-clause-names g c = λ t.
+    apart_taken _ _ _ c.next-id.result _ _ _ (c.next-id.ensures.new t) (ap (λ (x : Knowledge). x.put) (rw c.in-Taken.is at c.in_ok-propose.ensures.proposed))

@@ -9,6 +9,9 @@ use Rattle.writer_txn.specs.Creating.{CreateStands}
 use Rattle.writer_txn.specs.Refusing.{CreateRefused}
 use Rattle.writer_txn.specs.Moments.{FindsNone, WrittenNow}
 use Rattle.writer_txn.proofs.FirstCommits.{found_none, refused_stands, refused_now, is_next, is_timed, committed_now, taken_now, stopped_now}
+use Rattle.log_names.specs.declared.LogName.TheVariants as name
+use Rattle.table_model.specs.Knowledge.{Knowledge}
+use Rattle.writer_txn.proofs.Naming.{puts_none, apart_none, apart_put, apart_taken, apart_since, apart_at, apart_err, refused_puts, names_of_fault, names_of_create}
 use Rattle.writer_txn.proofs.creates.create.Goals as goal
 
 pub returns-in_err-commit-clause-stands : goal.returns-in_err-commit-clause-stands
@@ -69,3 +72,43 @@ returns-clause-now g c =
     let none : FindsNone (g.T.Steps.known c.args.caller.now) (g.T.Steps.known c.commits.new.self) =
     found_none _ _ _ _ c.in_ok-commits.ensures.learns (omega (arith, c.if-commits-gt0.false)) in
     taken_now _ _ _ _ _ _ c.in_ok-commits.ensures.learns none (rw c.in-Taken.is at c.in_ok-propose.ensures.proposed)
+
+pub returns-in_err-commits-clause-names : goal.returns-in_err-commits-clause-names
+returns-in_err-commits-clause-names g c = λ t.
+    apart_err _ _ _ c.from_residual.result (of_fault c.in_err-commits.field-0.0) _ _ c.from_residual.ensures.1
+    (apart_at _ _ _ _ _ _ _ (names_of_fault c.in_err-commits.field-0.0) (apart_none _ _ _ _ (refused_puts _ c.in_err-commits.field-0.0 _ c.in_err-commits.ensures.learns) t))
+
+pub returns-then-commits-gt0-clause-names : goal.returns-then-commits-gt0-clause-names
+returns-then-commits-gt0-clause-names g c = λ t. apart_none _ _ _ _ (ap (λ (x : Knowledge). x.put) c.in_ok-commits.ensures.learns.same) t
+
+pub returns-in_err-commit-clause-names : goal.returns-in_err-commit-clause-names
+returns-in_err-commit-clause-names g c = λ t.
+    let refused : CreateRefused c.args.what.now c.next-id.result c.now_ms-now.result c.limits-limits.result.bytes c.in_err-commit.field-0.0 =
+    subst (λ (now : ℤ). CreateRefused c.args.what.now c.next-id.result now c.limits-limits.result.bytes c.in_err-commit.field-0.0)
+    (to_z-of_z w64 c.now_ms-now.result (search rules)) c.in_err-commit.ensures.err in
+    apart_err _ _ _ c.from_residual-in_err-commit.result c.in_err-commit.field-0.0 _ _ c.from_residual-in_err-commit.ensures.1
+    (apart_at _ _ _ _ _ _ _ (names_of_create _ _ _ _ c.in_err-commit.field-0.0 refused)
+    (apart_put _ _ 0 c.next-id.result _ (g.T.Steps.known c.args.caller.now) (g.T.Steps.known c.commits.new.self) (c.next-id.ensures.new t)
+    (puts_none (name.Staged 0 c.next-id.result) (g.T.Steps.known c.args.caller.now) (g.T.Steps.known c.commits.new.self) (ap (λ (x : Knowledge). x.put) c.in_ok-commits.ensures.learns.same))))
+
+pub returns-in_err-propose-clause-names : goal.returns-in_err-propose-clause-names
+returns-in_err-propose-clause-names g c = λ t.
+    apart_err _ _ _ c.from_residual-in_err-propose.result (of_fault c.in_err-propose.field-0.0) _ _ c.from_residual-in_err-propose.ensures.1
+    (apart_since _ _ _ _ (g.T.Steps.known c.args.caller.now) (g.T.Steps.known c.commits.new.self) _ (ap (λ (x : Knowledge). x.put) c.in_ok-commits.ensures.learns.same)
+    (apart_at _ _ _ _ _ _ _ (names_of_fault c.in_err-propose.field-0.0) (apart_put _ _ _ c.next-id.result _ _ _ (c.next-id.ensures.new t) c.in_err-propose.ensures.puts)))
+
+pub returns-in-Done-clause-names : goal.returns-in-Done-clause-names
+returns-in-Done-clause-names g c = λ t.
+    apart_since _ _ _ _ (g.T.Steps.known c.args.caller.now) (g.T.Steps.known c.commits.new.self) _ (ap (λ (x : Knowledge). x.put) c.in_ok-commits.ensures.learns.same)
+    (apart_put _ _ _ c.next-id.result _ _ _ (c.next-id.ensures.new t) c.in_ok-propose.ensures.puts)
+
+pub returns-in-Lost-clause-names : goal.returns-in-Lost-clause-names
+returns-in-Lost-clause-names g c = λ t.
+    apart_since _ _ _ _ (g.T.Steps.known c.args.caller.now) (g.T.Steps.known c.commits.new.self) _ (ap (λ (x : Knowledge). x.put) c.in_ok-commits.ensures.learns.same)
+    (apart_put _ _ _ c.next-id.result _ _ _ (c.next-id.ensures.new t) c.in_ok-propose.ensures.puts)
+
+pub returns-clause-names : goal.returns-clause-names
+returns-clause-names g c = λ t.
+    apart_since _ _ _ _ (g.T.Steps.known c.args.caller.now) (g.T.Steps.known c.commits.new.self) _ (ap (λ (x : Knowledge). x.put) c.in_ok-commits.ensures.learns.same)
+    (apart_taken _ _ _ c.next-id.result _ (g.T.Steps.known c.commits.new.self) (g.T.Steps.known c.propose.new.caller) (c.next-id.ensures.new t)
+    (ap (λ (x : Knowledge). x.put) (rw c.in-Taken.is at c.in_ok-propose.ensures.proposed)))

@@ -8,6 +8,9 @@ use Rattle.writer_txn.specs.Moments.{WrittenNow}
 use Rattle.writer_txn.specs.Writing.{WriteStands, IsAlready}
 use Rattle.writer_txn.proofs.Underway.{latest_now}
 use Rattle.writer_txn.proofs.Beginnings.{loaded_front, loaded_already, loaded_underway, load_refused_stands, load_refused_now}
+use Rattle.std.proofs.Common.{ap}
+use Rattle.table_model.specs.Knowledge.{Knowledge}
+use Rattle.writer_txn.proofs.Naming.{apart_none, apart_since, apart_at, apart_err, names_of_load}
 use Rattle.writer_txn.proofs.writes.write.Goals as goal
 
 pub returns-in_err-snapshot-clause-stands : goal.returns-in_err-snapshot-clause-stands
@@ -51,3 +54,14 @@ returns-clause-now g c =
 
 pub returns-clause-after : goal.returns-clause-after
 returns-clause-after g c = g.met.T.Steps.after_both _ _ _ c.in_ok-snapshot.ensures.after c.attempts.ensures.after
+
+pub returns-in_err-snapshot-clause-names : goal.returns-in_err-snapshot-clause-names
+returns-in_err-snapshot-clause-names g c = λ t.
+    apart_err _ _ _ c.from_residual.result (of_load c.in_err-snapshot.field-0.0) _ _ c.from_residual.ensures.1
+    (apart_at _ _ _ _ _ _ _ (names_of_load c.in_err-snapshot.field-0.0) (apart_none _ _ _ _ (ap (λ (x : Knowledge). x.put) c.in_err-snapshot.ensures.turns.same) t))
+
+pub returns-in-Some-clause-names : goal.returns-in-Some-clause-names
+returns-in-Some-clause-names g c = λ t. apart_none _ _ _ _ (ap (λ (x : Knowledge). x.put) c.in_ok-snapshot.ensures.turns.same) t
+
+pub returns-clause-names : goal.returns-clause-names
+returns-clause-names g c = λ t. apart_since _ _ _ _ _ _ _ (ap (λ (x : Knowledge). x.put) c.in_ok-snapshot.ensures.turns.same) (c.attempts.ensures.names t)
