@@ -1,21 +1,17 @@
 -- The canonical text of a commit is read as its actions.
-use Rattle.std.proofs.Common.{◌≡◌, ℕ, ◌+◌, List, [], ◌∷◌, ◌++◌, Bool, true, false, not, ◌&&◌, codes, map, Option, Some, None, is_some, Result, Ok, Err, refl, sym, ap, ◌∙◌, append_assoc, append-nil}
-use Rattle.std.specs.List.{AllByRecursion}
-use Rattle.std.specs.Str.{is_utf8}
+use Rattle.std.proofs.Common.{◌≡◌, ℕ, ◌+◌, List, [], ◌∷◌, ◌++◌, Bool, true, false, not, ◌&&◌, map, Option, Some, None, is_some, Ok, refl, sym, ap, ◌∙◌, append_assoc, append-nil}
 use Rattle.std.proofs.lemmas.Bool.{and_parts}
 use Rattle.text_lines.specs.Lines.{cut, is_blank}
 use Rattle.text_lines.proofs.Cutting.{cut-line_end, cut-nil}
 use Rattle.serde_json.specs.Data.{Data}
-use Rattle.serde_json.specs.Read.{read}
 use Rattle.action_types.specs.declared.actions.Action.{Action}
 use Rattle.action_types.specs.declared.actions.Action.TheVariants as action
-use Rattle.action_fields.specs.Bodies.{body_of}
-use Rattle.action_fields.specs.Canonical.{kind_of, body_data, action_data, canonical_line}
+use Rattle.action_fields.specs.Canonical.{kind_of, body_data, canonical_line}
 use Rattle.action_fields.specs.Kinds.{kind_name, kind_named}
 use Rattle.action_fields.specs.Valid.{has_valid_fields}
 use Rattle.action_fields.proofs.Bodies.{body_of-body_data}
 use Rattle.action_fields.proofs.Lines.{read-canonical_line, one_line-canonical_line}
-use Rattle.action_json.specs.Commit.{Flaw, double_of, is_nil, is_info, unless_double, outcome_from, outcome, canonical_text, begins_with_info, are_new, IsCommit, IsWritten, AreWritten}
+use Rattle.action_json.specs.Commit.{double_of, is_nil, is_info, outcome_from, outcome, canonical_text, begins_with_info, are_new, IsCommit, IsWritten, AreWritten}
 use Rattle.action_json.specs.Lines.{said_of, body_line, member_line, text_line, line_of}
 use Rattle.action_json.specs.declared.line.Line.TheVariants.{Says}
 

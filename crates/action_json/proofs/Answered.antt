@@ -1,14 +1,13 @@
 -- What the calls' clauses say of their results.
-use Rattle.std.proofs.Common.{◌≡◌, ℕ, ◌+◌, ◌<◌, List, [], ◌∷◌, ◌++◌, length, get_or, take, flat_map, Some, None, Result, Ok, Err, IfOk, IfErr, OnOk, refl, sym, ap, ◌∙◌, subst, append_assoc, append-nil}
+use Rattle.std.proofs.Common.{◌≡◌, ℕ, ◌+◌, List, [], ◌∷◌, ◌++◌, take, Result, Ok, Err, IfOk, IfErr, OnOk, refl, sym, ap, ◌∙◌, subst, append_assoc, append-nil}
 use Rattle.std.specs.Prelude.{⊤, MatchOption}
-use Rattle.std.specs.List.{AllByRecursion}
 use Rattle.std.proofs.lemmas.Grind.{flat_map-append}
 use Rattle.std.proofs.lemmas.Result.{MatchResult-at_ok, MatchResult-at_err}
 use Rattle.text_lines.specs.Lines.{with_lf}
 use Rattle.action_types.specs.declared.actions.Action.{Action}
 use Rattle.action_fields.specs.Canonical.{canonical_line}
 use Rattle.action_fields.specs.Gives.{Gives}
-use Rattle.action_json.specs.Commit.{Flaw, told, outcome, canonical_text, IsCommit, IsWritten, AreWritten}
+use Rattle.action_json.specs.Commit.{told, outcome, canonical_text, IsCommit, IsWritten, AreWritten}
 use Rattle.action_json.specs.Text.{IsCommitText, IsFirstFlaw}
 use Rattle.action_json.specs.declared.fault.BadCommit.{BadCommit}
 use Rattle.action_json.specs.declared.fault.BadCommit.TheVariants as bad

@@ -1,11 +1,11 @@
 -- The first line of a text, and the end of its lines.
-use Rattle.std.proofs.Common.{◌≡◌, ◌≢◌, ℕ, zero, suc, ◌+◌, ◌-◌, ◌<◌, ◌≤◌, ◌==◌, List, [], ◌∷◌, ◌++◌, length, get_or, take, drop, true, Ok, Result, refl, sym, ap, ◌∙◌, subst, arith, add-one, drop-cons, eq-eqb, length-drop}
+use Rattle.std.proofs.Common.{◌≡◌, ◌≢◌, ℕ, ◌+◌, ◌-◌, ◌<◌, ◌≤◌, ◌==◌, List, [], ◌∷◌, ◌++◌, length, get_or, take, drop, true, Ok, sym, ap, ◌∙◌, subst, arith, add-one, drop-cons, eq-eqb, length-drop}
 use Rattle.std.proofs.lemmas.List.{take-append-drop, get_or-take, take_all, length-take-le}
 use Rattle.std.proofs.lemmas.List.Elements.{All-from_get_or}
 use Rattle.text_lines.specs.Lines.{cut, HasNoLf}
 use Rattle.text_lines.proofs.Cutting.{cut-line, cut-last, cut-nil}
 use Rattle.action_types.specs.declared.actions.Action.{Action}
-use Rattle.action_json.specs.Commit.{Flaw, outcome_from}
+use Rattle.action_json.specs.Commit.{outcome_from}
 
 -- a byte that was not found before place n is not there
 pub no_lf_before : (text : List ℕ) (n : ℕ) → n ≤ length text → ((k : ℕ) → k < n → (get_or text k 0 == 10) ≡ true → ⊥) → HasNoLf (take n text)

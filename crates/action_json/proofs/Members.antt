@@ -1,5 +1,5 @@
 -- The one member of an object, by the entries of its map; and small facts on tests.
-use Rattle.std.proofs.Common.{◌≡◌, ◌≢◌, ℕ, List, [], ◌∷◌, length, Bool, true, false, cond, ◌||◌, Some, None, is_some, string_bytes, refl, ap, sym, ◌∙◌, arith}
+use Rattle.std.proofs.Common.{◌≡◌, ◌≢◌, ℕ, List, [], ◌∷◌, length, Bool, true, false, cond, ◌||◌, Some, None, is_some, string_bytes, refl, ap, arith}
 use Rattle.std.specs.List.{slice_get}
 use Rattle.serde_json.specs.View.{view, members_view}
 use Rattle.serde_json.proofs.Views.{Entry}

@@ -1,12 +1,11 @@
 -- What a line says: the same wherever it stands unless it is a flaw, valid fields, and an Info where it is the first.
-use Rattle.std.proofs.Common.{◌≡◌, ℕ, List, [], ◌∷◌, ◌++◌, Bool, true, false, not, ◌&&◌, codes, bytes_eq, Option, Some, None, option_map, option_and_then, IfSome, Result, Ok, Err, IfOk, if◌then◌else◌, refl, sym, ap, ◌∙◌, subst}
+use Rattle.std.proofs.Common.{◌≡◌, ℕ, List, [], ◌∷◌, Bool, true, false, not, ◌&&◌, codes, bytes_eq, Option, Some, None, IfSome, Result, Ok, Err, IfOk, if◌then◌else◌, refl, sym, ap, ◌∙◌, subst}
 use Rattle.std.specs.Prelude.{⊤}
 use Rattle.std.specs.Str.{is_utf8}
 use Rattle.std.proofs.lemmas.Bool.{and_parts}
 use Rattle.std.proofs.lemmas.Slice.Eq.{bytes_eq-Decides}
 use Rattle.text_lines.specs.Lines.{is_blank}
-use Rattle.serde_json.specs.Data.{Data, null, boolean, number, string, array, object, Members, no_members, member}
-use Rattle.serde_json.specs.Find.{as_object}
+use Rattle.serde_json.specs.Data.{Data, null, boolean, number, string, array, object, no_members, member}
 use Rattle.serde_json.specs.Read.{read}
 use Rattle.action_types.specs.declared.actions.Action.{Action}
 use Rattle.action_types.specs.declared.actions.Action.TheVariants as action
@@ -15,13 +14,13 @@ use Rattle.action_fields.specs.declared.kind.Kind.TheVariants as kind
 use Rattle.action_fields.specs.Bodies.{body_of}
 use Rattle.action_fields.specs.Canonical.{kind_of}
 use Rattle.action_fields.specs.Gives.{◌>>=◌}
-use Rattle.action_fields.specs.Kinds.{kind_named, is_action}
-use Rattle.action_fields.specs.Ordered.{names_of, are_rising, is_ordered, members_are_ordered}
+use Rattle.action_fields.specs.Kinds.{kind_named}
+use Rattle.action_fields.specs.Ordered.{are_rising, is_ordered}
 use Rattle.action_fields.specs.Valid.{has_valid_fields}
 use Rattle.action_fields.proofs.Accepted.{kind-body_of_info, valid-body_of}
 use Rattle.action_fields.proofs.Reading.{ordered-read}
 use Rattle.action_json.specs.Commit.{is_info}
-use Rattle.action_json.specs.Lines.{or_why, member_of, only_member, commit_kind, said_of, body_line, member_line, text_line, line_of}
+use Rattle.action_json.specs.Lines.{or_why, only_member, commit_kind, said_of, body_line, member_line, text_line, line_of}
 use Rattle.action_json.specs.declared.line.Line.{Line}
 use Rattle.action_json.specs.declared.line.Line.TheVariants.{Blank, Unread, Says}
 use Rattle.action_json.specs.declared.fault.Why.{Why}

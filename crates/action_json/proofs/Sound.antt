@@ -1,17 +1,14 @@
 -- The reading line by line is the relation over the lines and what stands before them.
-use Rattle.std.proofs.Common.{◌≡◌, ℕ, ◌+◌, List, [], ◌∷◌, ◌++◌, length, flat_map, Bool, true, false, ◌&&◌, Option, Some, None, option_map, Result, Ok, Err, MatchResult, IfErr, refl, sym, ap, ap₂, ◌∙◌, subst, arith, append_assoc, append-nil, length-append}
-use Rattle.std.specs.Prelude.{⊤, MatchOption}
+use Rattle.std.proofs.Common.{◌≡◌, ℕ, ◌+◌, List, [], ◌∷◌, ◌++◌, length, Bool, true, false, Option, Some, None, option_map, Result, Ok, Err, MatchResult, refl, sym, ap, ◌∙◌, subst, append_assoc, append-nil, length-append}
 use Rattle.std.proofs.lemmas.Grind.{flat_map-append}
 use Rattle.std.proofs.lemmas.List.Folds.{list_all-append}
 use Rattle.std.specs.List.{list_all}
 use Rattle.text_lines.specs.Lines.{cut, is_blank}
 use Rattle.action_types.specs.declared.actions.Action.{Action}
 use Rattle.action_fields.specs.Canonical.{kind_of}
-use Rattle.action_json.specs.Commit.{Flaw, double_of, is_nil, is_info, unless_double, after_line, outcome_from, outcome, told}
+use Rattle.action_json.specs.Commit.{Flaw, double_of, is_nil, unless_double, after_line, outcome_from, outcome}
 use Rattle.action_json.specs.Lines.{line_of}
-use Rattle.action_json.specs.Text.{said, actions_in, actions_of, flaw_in, flaw_after, Faultless, IsCommitText, IsFirstFlaw}
-use Rattle.action_json.specs.declared.fault.BadCommit.{BadCommit}
-use Rattle.action_json.specs.declared.fault.BadCommit.TheVariants as bad
+use Rattle.action_json.specs.Text.{said, actions_in, flaw_in, flaw_after, Faultless, IsCommitText, IsFirstFlaw}
 use Rattle.action_json.specs.declared.line.Line.{Line}
 use Rattle.action_json.specs.declared.line.Line.TheVariants.{Blank, Unread, Says}
 use Rattle.action_json.specs.declared.fault.Why.{Why}

@@ -1,5 +1,5 @@
 -- What the keys of a reading know of the actions so far.
-use Rattle.std.specs.Prelude.{◌≡◌, ℕ, ◌||◌, Bool, List, ◌++◌, ◌∷◌, [], bytes_eq, false}
+use Rattle.std.specs.Prelude.{◌≡◌, ℕ, List}
 use Rattle.std.specs.List.{list_any}
 use Rattle.std.specs.BTreeSet.{contains_text}
 use Rattle.action_types.specs.declared.actions.Action.{Action}

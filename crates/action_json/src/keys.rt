@@ -67,11 +67,9 @@ fn note(alloc: Global, keys: &mut BTreeSet<String>, key: &Name) -> Result<Option
     ensures double { IfOk result (λ o. o ≡ if_some (contains_text keys.old key.now) key.now) }
     ensures noted { OnOk result ((q : List ℕ) → contains_text keys.new q ≡ (contains_text keys.old q || bytes_eq key.now q)) }
 {
-    let noted = keys.contains(key.as_str());
-    keys.insert(String::from_str(alloc, key.as_str())?)?;
-    if noted {
-        Ok(Some(key.copy()?))
-    } else {
+    if keys.insert(String::from_str(alloc, key.as_str())?)? {
         Ok(None)
+    } else {
+        Ok(Some(key.copy()?))
     }
 }

@@ -3,6 +3,7 @@
 //! With any argument the whole input is one text, and the number of its actions or the line of its first flaw is said.
 #![tactic(auto)]
 
+mod spoilt;
 mod table;
 
 use action_json::{BadCommit, read_commit};

@@ -1,4 +1,6 @@
 //! What a text of the table is.
+use crate::spoilt::spoilt_copy;
+use action_fields::has_valid_fields;
 use action_json::{BadCommit, Why, is_commit, push_body, read_commit, write_commit};
 use action_types::Action;
 use std::alloc::{AllocError, Global};
@@ -36,6 +38,12 @@ fn written(alloc: Global, actions: &[Action]) -> Result<String, AllocError> {
     if !is_commit(actions) {
         return format!(in alloc; "{count} no commit");
     }
+    if !have_equal_copies(actions)? {
+        return format!(in alloc; "{count} copies differ");
+    }
+    if is_taken_spoilt(alloc, actions)? {
+        return format!(in alloc; "{count} taken though spoilt");
+    }
     let mut text = write_commit(alloc, actions)?;
     for byte in text.iter_mut() {
         if *byte == b'\n' {
@@ -49,6 +57,33 @@ fn written(alloc: Global, actions: &[Action]) -> Result<String, AllocError> {
         Ok(text) => format!(in alloc; "{count} {text}"),
         Err(_) => format!(in alloc; "{count} no text"),
     }
+}
+
+/// Whether the copy of each action is equal to it.
+fn have_equal_copies(actions: &[Action]) -> Result<bool, AllocError> {
+    for action in actions {
+        if action.copy()? != *action {
+            return Ok(false);
+        }
+    }
+    Ok(true)
+}
+
+/// Whether the list is taken for a commit without its first action, or an action of it for one that is read with a field spoilt.
+fn is_taken_spoilt(alloc: Global, actions: &[Action]) -> Result<bool, AllocError> {
+    if let [_, rest @ ..] = actions {
+        if !rest.is_empty() && is_commit(rest) {
+            return Ok(true);
+        }
+    }
+    for action in actions {
+        if let Some(spoilt) = spoilt_copy(alloc, action)? {
+            if has_valid_fields(&spoilt) {
+                return Ok(true);
+            }
+        }
+    }
+    Ok(false)
 }
 
 fn flaw(alloc: Global, line: u64, why: &Why) -> Result<String, AllocError> {
