@@ -19,3 +19,6 @@ pub use reading::read_request;
 pub use reply::Reply;
 pub use request::Request;
 pub use writing::reply_text;
+
+#[cfg(test)]
+mod tests;
