@@ -3,7 +3,7 @@
 #![tactic(auto, unfolding(crate::specs::Bodies::required, crate::specs::Bodies::optional, crate::specs::Bodies::or_empty))]
 
 ghost use Rattle.std.specs.Prelude.{true};
-ghost use Rattle.serde_json.specs.View.{view};
+ghost use Rattle.json_tree.specs.View.{view};
 ghost use Rattle.action_fields.specs.Bodies.{optional, or_empty, or_fault, required, told};
 ghost use Rattle.action_fields.specs.Gives.{Gives};
 ghost use Rattle.action_fields.specs.Types.{flag, format, from_zero, integer, names, pairs, path, text};
@@ -13,7 +13,7 @@ use crate::types::{
     flag_of, format_of, from_zero_of, given, integer_of, names_of, pairs_of, path_of, text_of,
 };
 use action_types::{Format, Name, Names, Pairs};
-use serde_json::Value;
+use json_tree::Tree;
 use std::alloc::Global;
 
 /// What was found, or the fault of the field where nothing was.
@@ -30,7 +30,7 @@ fn needed<T: Drop>(alloc: Global, name: &str, found: Option<T>) -> Result<T, Bad
 }
 
 /// A string that has to be there.
-pub(crate) fn required_text(alloc: Global, body: &Value, name: &str) -> Result<Name, BadBody>
+pub(crate) fn required_text(alloc: Global, body: &Tree<'_>, name: &str) -> Result<Name, BadBody>
     ensures { Gives told (λ x. x) result (required text name.now (view body.now)) }
 {
     let found = match given(body, name) {
@@ -41,7 +41,7 @@ pub(crate) fn required_text(alloc: Global, body: &Value, name: &str) -> Result<N
 }
 
 /// An integer of 64 bits that has to be there.
-pub(crate) fn required_integer(alloc: Global, body: &Value, name: &str) -> Result<i64, BadBody>
+pub(crate) fn required_integer(alloc: Global, body: &Tree<'_>, name: &str) -> Result<i64, BadBody>
     ensures { Gives told (λ x. x) result (required integer name.now (view body.now)) }
 {
     let found = match given(body, name) {
@@ -52,7 +52,7 @@ pub(crate) fn required_integer(alloc: Global, body: &Value, name: &str) -> Resul
 }
 
 /// An integer of 64 bits from 0 that has to be there.
-pub(crate) fn required_from_zero(alloc: Global, body: &Value, name: &str) -> Result<i64, BadBody>
+pub(crate) fn required_from_zero(alloc: Global, body: &Tree<'_>, name: &str) -> Result<i64, BadBody>
     ensures { Gives told (λ x. x) result (required from_zero name.now (view body.now)) }
 {
     let found = match given(body, name) {
@@ -63,7 +63,7 @@ pub(crate) fn required_from_zero(alloc: Global, body: &Value, name: &str) -> Res
 }
 
 /// A boolean that has to be there.
-pub(crate) fn required_flag(alloc: Global, body: &Value, name: &str) -> Result<bool, BadBody>
+pub(crate) fn required_flag(alloc: Global, body: &Tree<'_>, name: &str) -> Result<bool, BadBody>
     ensures { Gives told (λ x. x) result (required flag name.now (view body.now)) }
 {
     let found = match given(body, name) {
@@ -74,7 +74,7 @@ pub(crate) fn required_flag(alloc: Global, body: &Value, name: &str) -> Result<b
 }
 
 /// A string that is not empty that has to be there.
-pub(crate) fn required_path(alloc: Global, body: &Value, name: &str) -> Result<Name, BadBody>
+pub(crate) fn required_path(alloc: Global, body: &Tree<'_>, name: &str) -> Result<Name, BadBody>
     ensures { Gives told (λ x. x) result (required path name.now (view body.now)) }
 {
     let found = match given(body, name) {
@@ -85,7 +85,7 @@ pub(crate) fn required_path(alloc: Global, body: &Value, name: &str) -> Result<N
 }
 
 /// An array of strings that has to be there.
-pub(crate) fn required_names(alloc: Global, body: &Value, name: &str) -> Result<Names, BadBody>
+pub(crate) fn required_names(alloc: Global, body: &Tree<'_>, name: &str) -> Result<Names, BadBody>
     ensures { Gives told (λ x. x) result (required names name.now (view body.now)) }
 {
     let found = match given(body, name) {
@@ -96,7 +96,7 @@ pub(crate) fn required_names(alloc: Global, body: &Value, name: &str) -> Result<
 }
 
 /// An object of strings and nulls that has to be there.
-pub(crate) fn required_pairs(alloc: Global, body: &Value, name: &str) -> Result<Pairs, BadBody>
+pub(crate) fn required_pairs(alloc: Global, body: &Tree<'_>, name: &str) -> Result<Pairs, BadBody>
     ensures { Gives told (λ x. x) result (required (pairs true) name.now (view body.now)) }
 {
     let found = match given(body, name) {
@@ -107,7 +107,7 @@ pub(crate) fn required_pairs(alloc: Global, body: &Value, name: &str) -> Result<
 }
 
 /// A format that has to be there.
-pub(crate) fn required_format(alloc: Global, body: &Value, name: &str) -> Result<Format, BadBody>
+pub(crate) fn required_format(alloc: Global, body: &Tree<'_>, name: &str) -> Result<Format, BadBody>
     ensures { Gives told (λ x. x) result (required format name.now (view body.now)) }
 {
     let found = match given(body, name) {
@@ -120,7 +120,7 @@ pub(crate) fn required_format(alloc: Global, body: &Value, name: &str) -> Result
 /// A string that may be absent.
 pub(crate) fn optional_text(
     alloc: Global,
-    body: &Value,
+    body: &Tree<'_>,
     name: &str,
 ) -> Result<Option<Name>, BadBody>
     ensures { Gives told (λ x. x) result (optional text name.now (view body.now)) }
@@ -137,7 +137,7 @@ pub(crate) fn optional_text(
 /// An integer of 64 bits that may be absent.
 pub(crate) fn optional_integer(
     alloc: Global,
-    body: &Value,
+    body: &Tree<'_>,
     name: &str,
 ) -> Result<Option<i64>, BadBody>
     ensures { Gives told (λ x. x) result (optional integer name.now (view body.now)) }
@@ -154,7 +154,7 @@ pub(crate) fn optional_integer(
 /// An integer of 64 bits from 0 that may be absent.
 pub(crate) fn optional_from_zero(
     alloc: Global,
-    body: &Value,
+    body: &Tree<'_>,
     name: &str,
 ) -> Result<Option<i64>, BadBody>
     ensures { Gives told (λ x. x) result (optional from_zero name.now (view body.now)) }
@@ -171,7 +171,7 @@ pub(crate) fn optional_from_zero(
 /// A boolean that may be absent.
 pub(crate) fn optional_flag(
     alloc: Global,
-    body: &Value,
+    body: &Tree<'_>,
     name: &str,
 ) -> Result<Option<bool>, BadBody>
     ensures { Gives told (λ x. x) result (optional flag name.now (view body.now)) }
@@ -188,7 +188,7 @@ pub(crate) fn optional_flag(
 /// An array of strings that may be absent.
 pub(crate) fn optional_names(
     alloc: Global,
-    body: &Value,
+    body: &Tree<'_>,
     name: &str,
 ) -> Result<Option<Names>, BadBody>
     ensures { Gives told (λ x. x) result (optional names name.now (view body.now)) }
@@ -205,7 +205,7 @@ pub(crate) fn optional_names(
 /// An object of strings and nulls that may be absent.
 pub(crate) fn optional_pairs(
     alloc: Global,
-    body: &Value,
+    body: &Tree<'_>,
     name: &str,
 ) -> Result<Option<Pairs>, BadBody>
     ensures { Gives told (λ x. x) result (optional (pairs true) name.now (view body.now)) }
@@ -220,7 +220,7 @@ pub(crate) fn optional_pairs(
 }
 
 /// An object of strings, none where it is absent.
-pub(crate) fn pairs_or_empty(alloc: Global, body: &Value, name: &str) -> Result<Pairs, BadBody>
+pub(crate) fn pairs_or_empty(alloc: Global, body: &Tree<'_>, name: &str) -> Result<Pairs, BadBody>
     ensures { Gives told (λ x. x) result (or_empty name.now (view body.now)) }
 {
     match given(body, name) {

@@ -1,6 +1,6 @@
 //! The bodies of the kinds that a commit has. The fields are read in byte order of their names, so the first faulty one is the least.
 ghost use Rattle.std.specs.Prelude.{IsTrue};
-ghost use Rattle.serde_json.specs.View.{view};
+ghost use Rattle.json_tree.specs.View.{view};
 ghost use Rattle.action_fields.specs.Bodies.{add, body_of, info, meta, protocol, remove, told, txn};
 ghost use Rattle.action_fields.specs.Gives.{Gives};
 ghost use Rattle.action_fields.specs.Kinds.{is_action};
@@ -13,7 +13,7 @@ use crate::field::{
 };
 use crate::kind::Kind;
 use action_types::{Action, Add, Info, Meta, Name, Protocol, Remove, Txn};
-use serde_json::Value;
+use json_tree::Tree;
 use std::alloc::Global;
 
 /// The action that a body of this kind says.
@@ -21,7 +21,7 @@ use std::alloc::Global;
 /// `Field` names the least faulty field in byte order of the names: one that is missing or null where it is needed, or of
 /// another type, or out of its range; the empty name stands for a body that is no object. Other fields are passed over.
 #[tactic(auto, unfolding(crate::specs::Bodies::body_of))]
-pub fn read_body(alloc: Global, kind: Kind, value: &Value) -> Result<Action, BadBody>
+pub fn read_body(alloc: Global, kind: Kind, value: &Tree<'_>) -> Result<Action, BadBody>
     requires { IsTrue (is_action kind) }
     ensures { Gives told (λ x. x) result (body_of kind (view value.now)) }
 {
@@ -41,7 +41,7 @@ pub fn read_body(alloc: Global, kind: Kind, value: &Value) -> Result<Action, Bad
 }
 
 #[tactic(auto, unfolding(crate::specs::Bodies::info))]
-fn read_info(alloc: Global, body: &Value) -> Result<Action, BadBody>
+fn read_info(alloc: Global, body: &Tree<'_>) -> Result<Action, BadBody>
     ensures { Gives told (λ x. x) result (info (view body.now)) }
 {
     let time = required_from_zero(alloc, body, "inCommitTimestamp")?;
@@ -50,7 +50,7 @@ fn read_info(alloc: Global, body: &Value) -> Result<Action, BadBody>
 }
 
 #[tactic(auto, unfolding(crate::specs::Bodies::protocol))]
-fn read_protocol(alloc: Global, body: &Value) -> Result<Action, BadBody>
+fn read_protocol(alloc: Global, body: &Tree<'_>) -> Result<Action, BadBody>
     ensures { Gives told (λ x. x) result (protocol (view body.now)) }
 {
     let reader = required_integer(alloc, body, "minReaderVersion")?;
@@ -66,7 +66,7 @@ fn read_protocol(alloc: Global, body: &Value) -> Result<Action, BadBody>
 }
 
 #[tactic(auto, unfolding(crate::specs::Bodies::meta))]
-fn read_meta(alloc: Global, body: &Value) -> Result<Action, BadBody>
+fn read_meta(alloc: Global, body: &Tree<'_>) -> Result<Action, BadBody>
     ensures { Gives told (λ x. x) result (meta (view body.now)) }
 {
     let configuration = pairs_or_empty(alloc, body, "configuration")?;
@@ -90,7 +90,7 @@ fn read_meta(alloc: Global, body: &Value) -> Result<Action, BadBody>
 }
 
 #[tactic(auto, unfolding(crate::specs::Bodies::txn))]
-fn read_txn(alloc: Global, body: &Value) -> Result<Action, BadBody>
+fn read_txn(alloc: Global, body: &Tree<'_>) -> Result<Action, BadBody>
     ensures { Gives told (λ x. x) result (txn (view body.now)) }
 {
     let app = required_text(alloc, body, "appId")?;
@@ -104,7 +104,7 @@ fn read_txn(alloc: Global, body: &Value) -> Result<Action, BadBody>
 }
 
 #[tactic(auto, unfolding(crate::specs::Bodies::remove))]
-fn read_remove(alloc: Global, body: &Value) -> Result<Action, BadBody>
+fn read_remove(alloc: Global, body: &Tree<'_>) -> Result<Action, BadBody>
     ensures { Gives told (λ x. x) result (remove (view body.now)) }
 {
     let change = required_flag(alloc, body, "dataChange")?;
@@ -124,7 +124,7 @@ fn read_remove(alloc: Global, body: &Value) -> Result<Action, BadBody>
 }
 
 #[tactic(auto, unfolding(crate::specs::Bodies::add))]
-fn read_add(alloc: Global, body: &Value) -> Result<Action, BadBody>
+fn read_add(alloc: Global, body: &Tree<'_>) -> Result<Action, BadBody>
     ensures { Gives told (λ x. x) result (add (view body.now)) }
 {
     let change = required_flag(alloc, body, "dataChange")?;

@@ -1,14 +1,14 @@
 //! The types of fields: a value as a text, a number, a list; `None` where it is of another type.
 ghost use Rattle.std.specs.Prelude.{◌≡◌, codes, IfOk, option_map};
-ghost use Rattle.serde_json.specs.View.{items_view, members_view, view};
+ghost use Rattle.json_tree.specs.View.{items_view, members_view, view};
 ghost use Rattle.action_fields.specs.Types.{flag, format, from_zero, given, integer, names, options, pairs, pairs_in, path, text, texts_in, value_in};
 
 use action_types::{Format, Name, Names, Pairs};
-use serde_json::{Map, Value};
+use json_tree::{Members, Tree};
 use std::alloc::{AllocError, Global};
 
 /// The value of a field, where the body has one that is not null.
-pub(crate) fn given<'v>(body: &'v Value, name: &str) -> Option<&'v Value>
+pub(crate) fn given<'v, 'a>(body: &'v Tree<'a>, name: &str) -> Option<&'v Tree<'a>>
     ensures { option_map (λ v. view v.now) result ≡ given name.now (view body.now) }
 {
     match body.get(name) {
@@ -18,7 +18,7 @@ pub(crate) fn given<'v>(body: &'v Value, name: &str) -> Option<&'v Value>
 }
 
 /// A string; refused for want of memory alone.
-pub(crate) fn text_of(alloc: Global, value: &Value) -> Result<Option<Name>, AllocError>
+pub(crate) fn text_of(alloc: Global, value: &Tree<'_>) -> Result<Option<Name>, AllocError>
     ensures { IfOk result (λ o. o ≡ text (view value.now)) }
 {
     match value.as_str() {
@@ -28,14 +28,14 @@ pub(crate) fn text_of(alloc: Global, value: &Value) -> Result<Option<Name>, Allo
 }
 
 /// An integer of 64 bits.
-pub(crate) fn integer_of(value: &Value) -> Option<i64>
+pub(crate) fn integer_of(value: &Tree<'_>) -> Option<i64>
     ensures { result ≡ integer (view value.now) }
 {
     value.as_i64()
 }
 
 /// An integer of 64 bits from 0.
-pub(crate) fn from_zero_of(value: &Value) -> Option<i64>
+pub(crate) fn from_zero_of(value: &Tree<'_>) -> Option<i64>
     ensures { result ≡ from_zero (view value.now) }
 {
     match value.as_i64() {
@@ -45,14 +45,14 @@ pub(crate) fn from_zero_of(value: &Value) -> Option<i64>
 }
 
 /// A boolean.
-pub(crate) fn flag_of(value: &Value) -> Option<bool>
+pub(crate) fn flag_of(value: &Tree<'_>) -> Option<bool>
     ensures { result ≡ flag (view value.now) }
 {
     value.as_bool()
 }
 
 /// A string that is not empty; refused for want of memory alone.
-pub(crate) fn path_of(alloc: Global, value: &Value) -> Result<Option<Name>, AllocError>
+pub(crate) fn path_of(alloc: Global, value: &Tree<'_>) -> Result<Option<Name>, AllocError>
     ensures { IfOk result (λ o. o ≡ path (view value.now)) }
 {
     match value.as_str() {
@@ -68,7 +68,7 @@ pub(crate) fn path_of(alloc: Global, value: &Value) -> Result<Option<Name>, Allo
 }
 
 /// An array of strings; refused for want of memory alone.
-pub(crate) fn names_of(alloc: Global, value: &Value) -> Result<Option<Names>, AllocError>
+pub(crate) fn names_of(alloc: Global, value: &Tree<'_>) -> Result<Option<Names>, AllocError>
     ensures { IfOk result (λ o. o ≡ names (view value.now)) }
 {
     match value.as_array() {
@@ -77,7 +77,7 @@ pub(crate) fn names_of(alloc: Global, value: &Value) -> Result<Option<Names>, Al
     }
 }
 
-fn texts_of(alloc: Global, items: &[Value]) -> Result<Option<Names>, AllocError>
+fn texts_of(alloc: Global, items: &[Tree<'_>]) -> Result<Option<Names>, AllocError>
     ensures { IfOk result (λ o. o ≡ texts_in (items_view items.now)) }
 {
     let mut found = Names::new(alloc);
@@ -93,7 +93,7 @@ fn texts_of(alloc: Global, items: &[Value]) -> Result<Option<Names>, AllocError>
 /// An object whose values are strings or, where `nulls` holds, nulls; refused for want of memory alone.
 pub(crate) fn pairs_of(
     alloc: Global,
-    value: &Value,
+    value: &Tree<'_>,
     nulls: bool,
 ) -> Result<Option<Pairs>, AllocError>
     ensures { IfOk result (λ o. o ≡ pairs nulls (view value.now)) }
@@ -104,25 +104,25 @@ pub(crate) fn pairs_of(
     }
 }
 
-fn values_of(
-    alloc: Global,
-    members: &Map<String, Value>,
-    nulls: bool,
-) -> Result<Option<Pairs>, AllocError>
+fn values_of(alloc: Global, members: &Members<'_>, nulls: bool) -> Result<Option<Pairs>, AllocError>
     ensures { IfOk result (λ o. o ≡ pairs_in nulls (members_view members.now.entries)) }
 {
     let mut found = Pairs::new(alloc);
     for (name, value) in members.iter() {
         match value_of(alloc, value, nulls)? {
             None => return Ok(None),
-            Some(text) => found.push(Name::from_str(alloc, name.as_str())?, text)?,
+            Some(text) => found.push(Name::from_str(alloc, name)?, text)?,
         }
     }
     Ok(Some(found))
 }
 
 /// A string, or none for a null where `nulls` holds; refused for want of memory alone.
-fn value_of(alloc: Global, value: &Value, nulls: bool) -> Result<Option<Option<Name>>, AllocError>
+fn value_of(
+    alloc: Global,
+    value: &Tree<'_>,
+    nulls: bool,
+) -> Result<Option<Option<Name>>, AllocError>
     ensures { IfOk result (λ o. o ≡ value_in nulls (view value.now)) }
 {
     if value.is_null() {
@@ -135,7 +135,7 @@ fn value_of(alloc: Global, value: &Value, nulls: bool) -> Result<Option<Option<N
 }
 
 /// The options of a format, none where they are absent; refused for want of memory alone.
-fn options_of(alloc: Global, format: &Value) -> Result<Option<Pairs>, AllocError>
+fn options_of(alloc: Global, format: &Tree<'_>) -> Result<Option<Pairs>, AllocError>
     ensures { IfOk result (λ o. o ≡ options (given (codes "options") (view format.now))) }
 {
     match given(format, "options") {
@@ -145,7 +145,7 @@ fn options_of(alloc: Global, format: &Value) -> Result<Option<Pairs>, AllocError
 }
 
 /// An object with a provider and options; refused for want of memory alone.
-pub(crate) fn format_of(alloc: Global, value: &Value) -> Result<Option<Format>, AllocError>
+pub(crate) fn format_of(alloc: Global, value: &Tree<'_>) -> Result<Option<Format>, AllocError>
     ensures { IfOk result (λ o. o ≡ format (view value.now)) }
 {
     let provider = match given(value, "provider") {

@@ -1,7 +1,7 @@
 //! One line of a commit.
 ghost use Rattle.std.specs.Prelude.{◌≡◌, option_map};
 ghost use Rattle.text_lines.specs.Lines.{is_blank};
-ghost use Rattle.serde_json.specs.View.{view};
+ghost use Rattle.json_tree.specs.View.{view};
 ghost use Rattle.action_fields.specs.Gives.{Gives};
 ghost use Rattle.action_json.specs.Commit.{line_told};
 ghost use Rattle.action_json.specs.Lines.{commit_kind, line_of, member_line, only_member, text_line};
@@ -9,7 +9,7 @@ ghost use Rattle.action_json.specs.Lines.{commit_kind, line_of, member_line, onl
 use crate::fault::{BadLine, Why};
 use action_fields::{BadBody, Kind, read_body};
 use action_types::Action;
-use serde_json::Value;
+use json_tree::{ParseError, Scratch, Tree};
 use std::alloc::Global;
 use std::str;
 
@@ -30,26 +30,36 @@ fn is_blank(line: &[u8]) -> bool
 
 /// What a line says; `first` where no line before it says anything. An error is its first reason, or want of memory.
 #[tactic(auto, unfolding(crate::specs::Lines::line_of))]
-pub(crate) fn read_line(alloc: Global, first: bool, line: &[u8]) -> Result<Line, BadLine>
+pub(crate) fn read_line<'a>(
+    alloc: Global,
+    scratch: &'a mut Scratch,
+    first: bool,
+    line: &'a [u8],
+) -> Result<Line, BadLine>
     ensures { Gives line_told (λ x. x) result (line_of first line.now) }
 {
     if is_blank(line) {
         return Ok(Line::Blank);
     }
     match str::from_utf8(line) {
-        Ok(text) => read_text(alloc, first, text),
+        Ok(text) => read_text(alloc, scratch, first, text),
         Err(_) => Err(BadLine::Because(Why::Utf8)),
     }
 }
 
 #[tactic(auto, unfolding(crate::specs::Lines::text_line))]
-fn read_text(alloc: Global, first: bool, text: &str) -> Result<Line, BadLine>
+fn read_text<'a>(
+    alloc: Global,
+    scratch: &'a mut Scratch,
+    first: bool,
+    text: &'a str,
+) -> Result<Line, BadLine>
     ensures { Gives line_told (λ x. x) result (text_line first text.now) }
 {
-    let value = match Value::from_str(alloc, text) {
+    let value = match Tree::parse(alloc, text, scratch) {
         Ok(value) => value,
-        Err(e) if e.is_memory() => return Err(BadLine::Memory),
-        Err(_) => return Err(BadLine::Because(Why::NotJson)),
+        Err(ParseError::Invalid) => return Err(BadLine::Because(Why::NotJson)),
+        Err(ParseError::Memory) => return Err(BadLine::Memory),
     };
     match only_member(&value) {
         None => Err(BadLine::Because(Why::NotOneMember)),
@@ -58,7 +68,7 @@ fn read_text(alloc: Global, first: bool, text: &str) -> Result<Line, BadLine>
 }
 
 /// The one member of an object.
-fn only_member(value: &Value) -> Option<(&str, &Value)>
+fn only_member<'v, 'a>(value: &'v Tree<'a>) -> Option<(&'a str, &'v Tree<'a>)>
     ensures { option_map (λ m. (m.0.now, view m.1.now)) result ≡ only_member (view value.now) }
 {
     let members = value.as_object()?;
@@ -66,11 +76,11 @@ fn only_member(value: &Value) -> Option<(&str, &Value)>
         return None;
     }
     let (name, body) = members.first_key_value()?;
-    Some((name.as_str(), body))
+    Some((*name, body))
 }
 
 #[tactic(auto, unfolding(crate::specs::Lines::member_line))]
-fn read_member(alloc: Global, first: bool, name: &str, body: &Value) -> Result<Line, BadLine>
+fn read_member(alloc: Global, first: bool, name: &str, body: &Tree<'_>) -> Result<Line, BadLine>
     ensures { Gives line_told (λ x. x) result (member_line first name.now (view body.now)) }
 {
     if first && name != "commitInfo" {

@@ -13,6 +13,7 @@ use crate::keys::Keys;
 use crate::line::{Line, read_line};
 use action_fields::kind_of;
 use action_types::Action;
+use json_tree::Scratch;
 use memchr::memchr;
 use std::alloc::Global;
 
@@ -51,10 +52,11 @@ fn read_lines(alloc: Global, bytes: &[u8]) -> Result<Vec<Action>, BadCommit>
         keys: Keys::new(alloc),
         number: 1,
     };
+    let mut scratch = Scratch::new(alloc);
     let mut rest = bytes;
     while !rest.is_empty() {
         let (line, after) = first_line(rest);
-        take_line(alloc, &mut reading, line)?;
+        take_line(alloc, &mut scratch, &mut reading, line)?;
         rest = after;
     }
     Ok(reading.actions)
@@ -74,7 +76,12 @@ fn first_line(text: &[u8]) -> (&[u8], &[u8])
 
 /// One more line, which leaves the rest of the lines to say what all of them said.
 #[tactic(auto, unfolding(crate::specs::Commit::outcome_from))]
-fn take_line(alloc: Global, reading: &mut Reading, line: &[u8]) -> Result<(), BadCommit>
+fn take_line<'a>(
+    alloc: Global,
+    scratch: &'a mut Scratch,
+    reading: &mut Reading,
+    line: &'a [u8],
+) -> Result<(), BadCommit>
     requires room { reading.old.number + 1 < 2 ^ 64 }
     requires knows { Knows reading.old.keys reading.old.actions.items }
     ensures ok { OnOk result ((ls : List (List ℕ)) → left reading.old (line.now ∷ ls) ≡ left reading.new ls) }
@@ -83,7 +90,7 @@ fn take_line(alloc: Global, reading: &mut Reading, line: &[u8]) -> Result<(), Ba
     ensures number { OnOk result (reading.new.number ≡ reading.old.number + 1) }
 {
     let first = reading.actions.is_empty();
-    match read_line(alloc, first, line) {
+    match read_line(alloc, scratch, first, line) {
         Ok(Line::Says(action)) => take_action(alloc, reading, action)?,
         Ok(Line::Blank | Line::Unread) => {}
         Err(BadLine::Because(why)) => {

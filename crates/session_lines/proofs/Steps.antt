@@ -1,11 +1,11 @@
 -- Members and files that are read one by one.
-use Rattle.std.proofs.Common.{◌≡◌, ℕ, ◌+◌, ◌<◌, List, [], ◌∷◌, ◌++◌, length, get_or, take, drop, Bool, true, false, ◌||◌, ◌&&◌, not, if◌then◌else◌, Option, Some, None, option_map, option_and_then, string_bytes, bytes_eq, suc, refl, sym, ap, ◌∙◌, append_assoc, drop-cons, add-one}
+use Rattle.std.proofs.Common.{◌≡◌, ℕ, ◌+◌, ◌<◌, List, [], ◌∷◌, ◌++◌, length, get_or, take, drop, Bool, true, false, ◌||◌, ◌&&◌, not, if◌then◌else◌, Option, Some, None, option_map, option_and_then, bytes_eq, suc, refl, sym, ap, ◌∙◌, append_assoc, drop-cons, add-one}
 use Rattle.std.specs.List.{list_any}
 use Rattle.std.proofs.lemmas.List.{take_more}
 use Rattle.std.proofs.lemmas.List.Folds.{list_any-append}
-use Rattle.serde_json.specs.View.{view, items_view, members_view}
-use Rattle.serde_json.specs.declared.value.Value.{Value}
-use Rattle.serde_json.proofs.Views.{Entry}
+use Rattle.json_tree.specs.View.{view, items_view, members_view}
+use Rattle.json_tree.specs.declared.tree.Tree.{Tree}
+use Rattle.json_tree.proofs.Entries.{Entry}
 use Rattle.action_types.specs.declared.actions.Add.{Add}
 use Rattle.action_fields.specs.Bodies.{body_of}
 use Rattle.action_fields.specs.declared.kind.Kind.TheVariants as kind
@@ -15,15 +15,15 @@ use Rattle.session_lines.specs.declared.op.Op.{Op}
 
 -- ---- members
 
-pub other-found : (o : Op) (e : Entry) (es all : List Entry) → all ≡ e ∷ es → is_other o (string_bytes e.0) (view e.1) ≡ true
-    → other_member o (members_view all) ≡ Some (string_bytes e.0)
+pub other-found : (o : Op) (e : Entry) (es all : List Entry) → all ≡ e ∷ es → is_other o (e.0.now) (view e.1) ≡ true
+    → other_member o (members_view all) ≡ Some (e.0.now)
 other-found o e es all cut is =
-    ap (λ rest. other_member o (members_view rest)) cut ∙ ap (λ b. if b then Some (string_bytes e.0) else other_member o (members_view es)) is
+    ap (λ rest. other_member o (members_view rest)) cut ∙ ap (λ b. if b then Some (e.0.now) else other_member o (members_view es)) is
 
-pub other-passed : (o : Op) (e : Entry) (es all : List Entry) → all ≡ e ∷ es → is_other o (string_bytes e.0) (view e.1) ≡ false
+pub other-passed : (o : Op) (e : Entry) (es all : List Entry) → all ≡ e ∷ es → is_other o (e.0.now) (view e.1) ≡ false
     → other_member o (members_view all) ≡ other_member o (members_view es)
 other-passed o e es all cut is =
-    ap (λ rest. other_member o (members_view rest)) cut ∙ ap (λ b. if b then Some (string_bytes e.0) else other_member o (members_view es)) is
+    ap (λ rest. other_member o (members_view rest)) cut ∙ ap (λ b. if b then Some (e.0.now) else other_member o (members_view es)) is
 
 -- ---- files
 
@@ -42,14 +42,14 @@ behind-one done a (Some rest) = ap Some (sym (append_assoc done (a ∷ []) rest)
 at_item : {A : Type 0} (vs : List A) (i : ℕ) (v : A) → i < length vs → v ≡ get_or vs i v → drop i vs ≡ v ∷ drop (i + 1) vs
 at_item vs i v h e = rw add-one (drop-cons vs i v h ∙ ap (λ w. w ∷ drop (suc i) vs) (sym e))
 
-pub adds-more : (done : List Add) (vs : List Value) (i : ℕ) (v : Value) (a : Add) → i < length vs → v ≡ get_or vs i v → as_add (body_of kind.Add (view v)) ≡ Some a
+pub adds-more : (done : List Add) (vs : List Tree) (i : ℕ) (v : Tree) (a : Add) → i < length vs → v ≡ get_or vs i v → as_add (body_of kind.Add (view v)) ≡ Some a
     → behind done (adds_in (items_view (drop i vs))) ≡ behind (done ++ a ∷ []) (adds_in (items_view (drop (i + 1) vs)))
 adds-more done vs i v a h e is =
     ap (λ rest. behind done (adds_in (items_view rest))) (at_item vs i v h e)
     ∙ ap (λ o. behind done (option_and_then (λ t. option_map (λ rest. t ∷ rest) (adds_in (items_view (drop (i + 1) vs)))) o)) is
     ∙ behind-one done a _
 
-pub adds-none : (done : List Add) (vs : List Value) (i : ℕ) (v : Value) → i < length vs → v ≡ get_or vs i v → as_add (body_of kind.Add (view v)) ≡ None
+pub adds-none : (done : List Add) (vs : List Tree) (i : ℕ) (v : Tree) → i < length vs → v ≡ get_or vs i v → as_add (body_of kind.Add (view v)) ≡ None
     → behind done (adds_in (items_view (drop i vs))) ≡ None
 adds-none done vs i v h e is =
     ap (λ rest. behind done (adds_in (items_view rest))) (at_item vs i v h e)

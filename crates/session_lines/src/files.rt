@@ -1,6 +1,6 @@
 //! Lists of files to add.
 ghost use Rattle.std.specs.Prelude.{◌≡◌, IfOk};
-ghost use Rattle.serde_json.specs.View.{items_view, view};
+ghost use Rattle.json_tree.specs.View.{items_view, view};
 ghost use Rattle.action_fields.specs.Bodies.{body_of};
 ghost use Rattle.action_fields.specs.declared.kind.Kind.TheVariants as kind;
 ghost use Rattle.staged_commit.specs.Adds.{have_own_paths};
@@ -9,12 +9,12 @@ ghost use Rattle.session_lines.specs.Members.{adds_in, as_add, files};
 use action_fields::{BadBody, Kind, read_body};
 use action_types::{Action, Add};
 use conflict_rules::Adds;
-use serde_json::Value;
+use json_tree::Tree;
 use std::alloc::{AllocError, Global};
 use std::collections::BTreeSet;
 
 /// A list of bodies of `add`, each with a path of its own; refused for want of memory alone.
-pub(crate) fn files_of(alloc: Global, value: &Value) -> Result<Option<Adds>, AllocError>
+pub(crate) fn files_of(alloc: Global, value: &Tree<'_>) -> Result<Option<Adds>, AllocError>
     ensures { IfOk result (λ o. o ≡ files (view value.now)) }
 {
     let Some(items) = value.as_array() else {
@@ -30,7 +30,7 @@ pub(crate) fn files_of(alloc: Global, value: &Value) -> Result<Option<Adds>, All
     }
 }
 
-fn adds_of(alloc: Global, items: &[Value]) -> Result<Option<Adds>, AllocError>
+fn adds_of(alloc: Global, items: &[Tree<'_>]) -> Result<Option<Adds>, AllocError>
     ensures { IfOk result (λ o. o ≡ adds_in (items_view items.now)) }
 {
     let mut found = Adds::new(alloc);
@@ -44,7 +44,7 @@ fn adds_of(alloc: Global, items: &[Value]) -> Result<Option<Adds>, AllocError>
 }
 
 /// The file that a body of `add` says; refused for want of memory alone.
-fn add_of(alloc: Global, value: &Value) -> Result<Option<Add>, AllocError>
+fn add_of(alloc: Global, value: &Tree<'_>) -> Result<Option<Add>, AllocError>
     ensures { IfOk result (λ o. o ≡ as_add (body_of kind.Add (view value.now))) }
 {
     match read_body(alloc, Kind::Add, value) {

@@ -3,7 +3,7 @@
 #![tactic(auto, unfolding(action_fields::specs::Bodies::required, action_fields::specs::Bodies::optional, crate::specs::Members::files_or_none))]
 
 ghost use Rattle.std.specs.Prelude.{◌≡◌, IfOk, option_map};
-ghost use Rattle.serde_json.specs.View.{view};
+ghost use Rattle.json_tree.specs.View.{view};
 ghost use Rattle.action_fields.specs.Bodies.{or_fault, required};
 ghost use Rattle.action_fields.specs.Bodies as bodies;
 ghost use Rattle.action_fields.specs.Gives.{Gives};
@@ -16,11 +16,11 @@ use crate::files::files_of;
 use action_fields::BadBody;
 use action_types::Name;
 use conflict_rules::Adds;
-use serde_json::Value;
+use json_tree::Tree;
 use std::alloc::{AllocError, Global};
 
 /// The value of a member, where the object has one that is not null.
-fn given<'v>(object: &'v Value, name: &str) -> Option<&'v Value>
+fn given<'v, 'a>(object: &'v Tree<'a>, name: &str) -> Option<&'v Tree<'a>>
     ensures { option_map (λ v. view v.now) result ≡ given name.now (view object.now) }
 {
     match object.get(name) {
@@ -43,7 +43,7 @@ fn needed<T: Drop>(alloc: Global, name: &str, found: Option<T>) -> Result<T, Bad
 }
 
 /// A text that is not empty; refused for want of memory alone.
-fn path_of(alloc: Global, value: &Value) -> Result<Option<Name>, AllocError>
+fn path_of(alloc: Global, value: &Tree<'_>) -> Result<Option<Name>, AllocError>
     ensures { IfOk result (λ o. o ≡ path (view value.now)) }
 {
     match value.as_str() {
@@ -59,7 +59,7 @@ fn path_of(alloc: Global, value: &Value) -> Result<Option<Name>, AllocError>
 }
 
 /// A text that does not speak of invariants; refused for want of memory alone.
-fn schema_of(alloc: Global, value: &Value) -> Result<Option<Name>, AllocError>
+fn schema_of(alloc: Global, value: &Tree<'_>) -> Result<Option<Name>, AllocError>
     ensures { IfOk result (λ o. o ≡ schema (view value.now)) }
 {
     match value.as_str() {
@@ -82,7 +82,7 @@ fn speaks_of_invariants(text: &str) -> bool
 }
 
 /// An integer of 64 bits from 0.
-fn from_zero_of(value: &Value) -> Option<i64>
+fn from_zero_of(value: &Tree<'_>) -> Option<i64>
     ensures { result ≡ from_zero (view value.now) }
 {
     match value.as_i64() {
@@ -92,7 +92,7 @@ fn from_zero_of(value: &Value) -> Option<i64>
 }
 
 /// A text that is not empty and that has to be there.
-pub(crate) fn required_path(alloc: Global, object: &Value, name: &str) -> Result<Name, BadBody>
+pub(crate) fn required_path(alloc: Global, object: &Tree<'_>, name: &str) -> Result<Name, BadBody>
     ensures { Gives bodies.told (λ x. x) result (required path name.now (view object.now)) }
 {
     let found = match given(object, name) {
@@ -103,7 +103,7 @@ pub(crate) fn required_path(alloc: Global, object: &Value, name: &str) -> Result
 }
 
 /// A text that does not speak of invariants and that has to be there.
-pub(crate) fn required_schema(alloc: Global, object: &Value, name: &str) -> Result<Name, BadBody>
+pub(crate) fn required_schema(alloc: Global, object: &Tree<'_>, name: &str) -> Result<Name, BadBody>
     ensures { Gives bodies.told (λ x. x) result (required schema name.now (view object.now)) }
 {
     let found = match given(object, name) {
@@ -114,7 +114,11 @@ pub(crate) fn required_schema(alloc: Global, object: &Value, name: &str) -> Resu
 }
 
 /// An integer of 64 bits from 0 that has to be there.
-pub(crate) fn required_from_zero(alloc: Global, object: &Value, name: &str) -> Result<i64, BadBody>
+pub(crate) fn required_from_zero(
+    alloc: Global,
+    object: &Tree<'_>,
+    name: &str,
+) -> Result<i64, BadBody>
     ensures { Gives bodies.told (λ x. x) result (required from_zero name.now (view object.now)) }
 {
     let found = match given(object, name) {
@@ -125,7 +129,7 @@ pub(crate) fn required_from_zero(alloc: Global, object: &Value, name: &str) -> R
 }
 
 /// A list of bodies of `add`, each with a path of its own; none where it is absent.
-pub(crate) fn files_or_none(alloc: Global, object: &Value, name: &str) -> Result<Adds, BadBody>
+pub(crate) fn files_or_none(alloc: Global, object: &Tree<'_>, name: &str) -> Result<Adds, BadBody>
     ensures { Gives bodies.told (λ x. x) result (files_or_none name.now (view object.now)) }
 {
     match given(object, name) {

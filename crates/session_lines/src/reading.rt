@@ -1,6 +1,6 @@
 //! Reading a request.
 ghost use Rattle.std.specs.Prelude.{◌≡◌, IfOk};
-ghost use Rattle.serde_json.specs.View.{members_view, view};
+ghost use Rattle.json_tree.specs.View.{members_view, view};
 ghost use Rattle.action_fields.specs.Bodies as bodies;
 ghost use Rattle.action_fields.specs.Gives.{Gives};
 ghost use Rattle.session_lines.specs.Faults.{told};
@@ -14,7 +14,7 @@ use crate::request::Request;
 use action_fields::BadBody;
 use action_types::{Name, Names, Pairs};
 use conflict_rules::{Intent, Level, Reads, Removes};
-use serde_json::{Map, Value};
+use json_tree::{Members, ParseError, Scratch, Tree};
 use staged_commit::Create;
 use std::alloc::{AllocError, Global};
 use std::str;
@@ -46,15 +46,16 @@ fn read_line(alloc: Global, line: &[u8]) -> Result<Request, BadLine>
 fn read_text(alloc: Global, text: &str) -> Result<Request, BadLine>
     ensures { Gives told (λ r. r) result (text_request text.now) }
 {
-    match Value::from_str(alloc, text) {
+    let mut scratch = Scratch::new(alloc);
+    match Tree::parse(alloc, text, &mut scratch) {
         Ok(value) => read_value(alloc, &value),
-        Err(e) if e.is_memory() => Err(BadLine::Memory),
-        Err(_) => Err(BadLine::NotJson),
+        Err(ParseError::Invalid) => Err(BadLine::NotJson),
+        Err(ParseError::Memory) => Err(BadLine::Memory),
     }
 }
 
 #[tactic(auto, unfolding(crate::specs::Requests::value_request))]
-fn read_value(alloc: Global, value: &Value) -> Result<Request, BadLine>
+fn read_value(alloc: Global, value: &Tree<'_>) -> Result<Request, BadLine>
     ensures { Gives told (λ r. r) result (value_request (view value.now)) }
 {
     let Some(members) = value.as_object() else {
@@ -67,7 +68,7 @@ fn read_value(alloc: Global, value: &Value) -> Result<Request, BadLine>
 }
 
 /// The kind of request that an object is.
-fn op_of(value: &Value) -> Option<Op>
+fn op_of(value: &Tree<'_>) -> Option<Op>
     ensures { result ≡ op_in (view value.now) }
 {
     match value.get("op") {
@@ -83,8 +84,8 @@ fn op_of(value: &Value) -> Option<Op>
 fn read_members(
     alloc: Global,
     op: Op,
-    members: &Map<String, Value>,
-    value: &Value,
+    members: &Members<'_>,
+    value: &Tree<'_>,
 ) -> Result<Request, BadLine>
     ensures { Gives told (λ r. r) result (op_request op (members_view members.now.entries) (view value.now)) }
 {
@@ -99,29 +100,25 @@ fn read_members(
 }
 
 /// The first member that is not null and that such a request does not have; refused for want of memory alone.
-fn other_member(
-    alloc: Global,
-    op: Op,
-    members: &Map<String, Value>,
-) -> Result<Option<Name>, AllocError>
+fn other_member(alloc: Global, op: Op, members: &Members<'_>) -> Result<Option<Name>, AllocError>
     ensures { IfOk result (λ o. o ≡ other_member op (members_view members.now.entries)) }
 {
     for (name, value) in members.iter() {
-        if is_other(op, name.as_str(), value) {
-            return Ok(Some(Name::from_str(alloc, name.as_str())?));
+        if is_other(op, name, value) {
+            return Ok(Some(Name::from_str(alloc, name)?));
         }
     }
     Ok(None)
 }
 
 /// Whether a member is not null and no member of such a request.
-fn is_other(op: Op, name: &str, value: &Value) -> bool
+fn is_other(op: Op, name: &str, value: &Tree<'_>) -> bool
     ensures { result ≡ is_other op name.now (view value.now) }
 {
     !(op.has_member(name) || value.is_null())
 }
 
-fn read_op(alloc: Global, op: Op, value: &Value) -> Result<Request, BadBody>
+fn read_op(alloc: Global, op: Op, value: &Tree<'_>) -> Result<Request, BadBody>
     ensures { Gives bodies.told (λ r. r) result (members_say op (view value.now)) }
 {
     match op {
@@ -132,7 +129,7 @@ fn read_op(alloc: Global, op: Op, value: &Value) -> Result<Request, BadBody>
 }
 
 #[tactic(auto, unfolding(crate::specs::Requests::create_of))]
-fn read_create(alloc: Global, value: &Value) -> Result<Request, BadBody>
+fn read_create(alloc: Global, value: &Tree<'_>) -> Result<Request, BadBody>
     ensures { Gives bodies.told (λ r. r) result (create_of (view value.now)) }
 {
     let id = required_path(alloc, value, "id")?;
@@ -149,7 +146,7 @@ fn read_create(alloc: Global, value: &Value) -> Result<Request, BadBody>
 }
 
 #[tactic(auto, unfolding(crate::specs::Requests::write_of))]
-fn read_write(alloc: Global, value: &Value) -> Result<Request, BadBody>
+fn read_write(alloc: Global, value: &Tree<'_>) -> Result<Request, BadBody>
     ensures { Gives bodies.told (λ r. r) result (write_of (view value.now)) }
 {
     let adds = files_or_none(alloc, value, "adds")?;

@@ -1,5 +1,5 @@
 use Rattle.std.proofs.Common.{◌≡◌, drop}
-use Rattle.serde_json.specs.View.{items_view}
+use Rattle.json_tree.specs.View.{items_view}
 use Rattle.action_fields.specs.Types.{texts_in}
 use Rattle.action_fields.proofs.Lists.{behind}
 use Rattle.action_fields.proofs.types.texts_of.Given as goal

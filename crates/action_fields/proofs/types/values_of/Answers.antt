@@ -11,7 +11,7 @@ pub loop-name-preserved : goal.loop-name-preserved
 loop-name-preserved c =
     let cut = rest_more deref_pair c.loop-name.name-iterator c.next.new.self c.next.result (c.in-Some.name, c.in-Some.value) c.in-Some.is c.next.ensures.steps in
     let e = values-more c.args.nulls c.loop-name.found (deref_pair (c.in-Some.name, c.in-Some.value)) c.next.new.self c.loop-name.name-iterator c.in-Some-2.text cut (sym c.in_ok-value_of.ensures ∙ c.in-Some-2.is) in
-    (tt, tt, rw (c.in_ok-push-in-Some-2.ensures.ok, c.in_ok-from_str-in-Some-2.ensures, c.as_str.ensures.value) (sym e ∙ c.loop-name.invariant.2))
+    (tt, tt, rw (c.in_ok-push-in-Some-2.ensures.ok, c.in_ok-from_str-in-Some-2.ensures) (sym e ∙ c.loop-name.invariant.2))
 
 pub returns-in-None-2 : goal.returns-in-None-2
 returns-in-None-2 c =

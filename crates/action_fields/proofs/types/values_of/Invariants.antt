@@ -1,5 +1,5 @@
 use Rattle.std.proofs.Common.{◌≡◌}
-use Rattle.serde_json.specs.View.{members_view}
+use Rattle.json_tree.specs.View.{members_view}
 use Rattle.action_fields.specs.Types.{pairs_in}
 use Rattle.action_fields.proofs.Lists.{behind}
 use Rattle.action_fields.proofs.types.values_of.Given as goal

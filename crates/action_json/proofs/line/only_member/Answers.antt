@@ -1,5 +1,5 @@
 use Rattle.std.proofs.Common.{◌≡◌, ◌≢◌, length, sym, ap, ◌∙◌, option_and_then, Some}
-use Rattle.serde_json.specs.View.{view}
+use Rattle.json_tree.specs.View.{view}
 use Rattle.action_json.specs.Lines.{member_of}
 use Rattle.action_json.proofs.Members.{member_of-many, member_of-one}
 use Rattle.action_json.proofs.line.only_member.Goals as goal
@@ -12,5 +12,4 @@ returns-then-len-ne1 c =
 pub returns : goal.returns
 returns c =
     let one : length c.in_ok-members.members.now.entries ≡ 1 = sym c.len.ensures.len ∙ c.if-len-ne1.false in
-    ap (λ n. Some (n, view c.in_ok-name.body.now)) c.as_str.ensures.value
-    ∙ sym (ap (option_and_then member_of) (sym c.in_ok-members.ensures) ∙ member_of-one _ (c.in_ok-name.name.now, c.in_ok-name.body.now) one c.in_ok-name.ensures.first)
+    sym (ap (option_and_then member_of) (sym c.in_ok-members.ensures) ∙ member_of-one _ (c.in_ok-name.name.now, c.in_ok-name.body.now) one c.in_ok-name.ensures.first)

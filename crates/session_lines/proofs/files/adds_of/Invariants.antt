@@ -1,5 +1,5 @@
 use Rattle.std.proofs.Common.{◌≡◌, drop}
-use Rattle.serde_json.specs.View.{items_view}
+use Rattle.json_tree.specs.View.{items_view}
 use Rattle.session_lines.specs.Members.{adds_in}
 use Rattle.session_lines.proofs.Steps.{behind}
 use Rattle.session_lines.proofs.files.adds_of.Given as goal

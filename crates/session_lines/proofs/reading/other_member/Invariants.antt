@@ -1,5 +1,5 @@
 use Rattle.std.proofs.Common.{◌≡◌}
-use Rattle.serde_json.specs.View.{members_view}
+use Rattle.json_tree.specs.View.{members_view}
 use Rattle.session_lines.specs.Members.{other_member}
 use Rattle.session_lines.proofs.reading.other_member.Given as goal
 
