@@ -5,7 +5,7 @@ use Rattle.http_wire.specs.Connection.{WireAt, Asked, stopped, Next, NextBy}
 use Rattle.http_wire.specs.declared.wire.WireState.{WireState}
 use Rattle.http_wire.specs.declared.wire.WireState.TheVariants as state
 use Rattle.http_wire.specs.Found.{GivesRequest}
-use Rattle.http_wire.specs.Filling.{TakesNext, TakesNone, TakesFront, Fills, FoundNone, Asks}
+use Rattle.http_wire.specs.Filling.{TakesNext, TakesNone, TakesFront, Fills, FillsSome, FoundNone, Asks}
 use Rattle.http_wire.specs.Requests.{IsUnfinished, IsRefused, IsRequest}
 use Rattle.httparse.specs.Grammar.{print_request}
 use Rattle.http_wire.proofs.Cutting.{rest_is_short}
@@ -179,6 +179,21 @@ pub asks_turn : (tells : Bool) (taken left : List ℕ) (at : WireAt) (taken' lef
 asks_turn tells taken left at taken' left' at' limit found front e taken'' left'' at'' has not takes fills =
     let turn = read_turn tells limit taken left at taken' left' at' found front has not takes in
     asks_fill tells taken left at taken' left' front limit e taken'' left'' at'' turn.0 turn.1 fills
+
+-- the two steps of one turn, where the source gave a piece
+pub read_more : (tells : Bool) (taken left : List ℕ) (at : WireAt) (taken' left' : List ℕ) (at' : WireAt) (limit : ℕ) (found : Option Request) (front : WireAt)
+    (more : Bool) (taken'' left'' : List ℕ) (at'' : WireAt)
+    → HasRead tells limit taken left at taken' left' at' → ((r : Request) → found ≡ Some r → ⊥) → TakesFront limit at' (Ok found) front
+    → more ≡ true → Fills tells taken' left' front (Ok more) taken'' left'' at'' → HasRead tells limit taken left at taken'' left'' at''
+read_more tells taken left at taken' left' at' limit found front more taken'' left'' at'' has not takes e fills =
+    let turn = read_turn tells limit taken left at taken' left' at' found front has not takes in
+    let some : FillsSome tells taken' left' front taken'' left'' at'' = rw e at fills in
+    record {
+      bytes = turn.0.bytes ++ some.bytes;
+      takes = Takes-both tells taken left turn.0.bytes taken' left' some.bytes taken'' left'' turn.0.takes some.takes;
+      asked = asked_more limit at turn.0.bytes front some.bytes turn.0.is turn.1 some.piece;
+      is = some.is ∙ (ap (λ (w : WireAt). took w some.bytes) turn.0.is ∙ took_both at turn.0.bytes some.bytes);
+    }
 
 pub next_by : (s : WireState) (P : Type 0) → P → NextBy s P
 next_by state.Open P p = p

@@ -2,6 +2,7 @@
 --     Next               the bytes that the call took from the source, and its answer
 --     Again              what an ended or stopped reader answers
 --     WireCause          when a fault may be answered
+--     CountsFault        the source's count of faults, by the answer
 use Rattle.std.specs.Prelude.{ℕ, ◌≡◌, ◌+◌, ◌<◌, ◌≤◌, ◌⊎◌, Bool, List, [], ◌++◌, length, IsTrue, Option, Some, None, Result, Ok, Err, ⊤}
 use Rattle.lake_io.specs.Causes.{Rose}
 use Rattle.lake_io.specs.Reading.{input_limit}
@@ -109,3 +110,12 @@ NextBy (state.Stopped e) P = ⊤
 pub record WireCause (before now : ℕ) (at : WireAt) (result : Result (Option Request) WireError) : Type 0 where
   pub later : before ≤ now
   pub failed : result ≡ Err error.ReadFault → (at.state ≡ state.Stopped error.ReadFault) ⊎ Rose before now
+
+-- the count of faults went up only where a fault is answered
+abbrev pub CountsFault : {A : Type 0} → ℕ → Result A WireError → ℕ → Type 0
+CountsFault before (Ok answer) now = now ≡ before
+CountsFault before (Err (error.Refuse status)) now = now ≡ before
+CountsFault before (Err error.Cut) now = now ≡ before
+CountsFault before (Err error.ReadFault) now = before ≤ now
+CountsFault before (Err error.TooMuch) now = now ≡ before
+CountsFault before (Err error.Memory) now = now ≡ before

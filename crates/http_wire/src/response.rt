@@ -1,5 +1,5 @@
 //! Responses.
-ghost use Rattle.std.specs.Prelude.{◌≡◌, ◌+◌, ◌≤◌, ◌++◌, length, decimal, MatchResult};
+ghost use Rattle.std.specs.Prelude.{◌≡◌, ◌+◌, ◌≤◌, ◌++◌, length, decimal, MatchResult, OnOk};
 ghost use Rattle.arrayvec.specs.ArrayString.{array_string_len};
 ghost use Rattle.lake_io.specs.Causes.{HasCause};
 ghost use Rattle.lake_io.specs.Told.{told, WritesSome};
@@ -107,6 +107,7 @@ pub fn put_response<O: Sink>(
 ) -> Result<(), WriteFault>
     ensures puts { MatchResult result (λ _. O.written sink.new ≡ O.written sink.old ++ told O.tells (response status json close body.now)) (λ _. WritesSome O.tells (O.written sink.old) (response status json close body.now) (O.written sink.new)) }
     ensures cause { HasCause (O.faults sink.old) (O.faults sink.new) result }
+    ensures counts { OnOk result (O.faults sink.new ≡ O.faults sink.old) }
 {
     let mut head = ArrayString::<HEAD_ROOM>::new();
     push_status_line(&mut head, status);

@@ -1,8 +1,8 @@
 //! The requests of a connection.
-ghost use Rattle.std.specs.Prelude.{◌≡◌, ◌<◌, ◌≤◌, ◌++◌, [], IfOk, OnSome, MatchResult, MatchBool, Err, length, min, take, drop, vec_len};
+ghost use Rattle.std.specs.Prelude.{◌≡◌, ◌<◌, ◌≤◌, ◌++◌, [], IfOk, OnOk, OnSome, MatchResult, MatchBool, Err, length, min, take, drop, vec_len};
 ghost use Rattle.lake_io.specs.Causes.{HasCause, Rose};
 ghost use Rattle.lake_io.specs.Told.{Reads, Takes};
-ghost use Rattle.http_wire.specs.Connection.{at_start, Again, Next, NextBy, WireCause};
+ghost use Rattle.http_wire.specs.Connection.{at_start, Again, CountsFault, Next, NextBy, WireCause};
 ghost use Rattle.http_wire.specs.Filling.{Asks, Fills, TakesFront};
 ghost use Rattle.http_wire.specs.Found.{FindsRequest};
 
@@ -47,6 +47,7 @@ fn read_front<I: Source>(source: &mut I, piece: &mut [u8], room: usize) -> Resul
     requires fits { room ≤ length piece.old }
     ensures gives { MatchResult result (λ n. Reads I.tells (I.taken source.old) (I.left source.old) (take room piece.new) n (I.taken source.new) (I.left source.new)) (λ _. Takes I.tells (I.taken source.old) (I.left source.old) [] (I.taken source.new) (I.left source.new)) }
     ensures cause { HasCause (I.faults source.old) (I.faults source.new) result }
+    ensures counts { OnOk result (I.faults source.new ≡ I.faults source.old) }
 {
     source.read(&mut piece[..room])
 }
@@ -61,6 +62,7 @@ fn read_piece<I: Source>(
     requires fits { room ≤ vec_len piece.old }
     ensures gives { MatchResult result (λ n. Reads I.tells (I.taken source.old) (I.left source.old) (take room piece.new.items) n (I.taken source.new) (I.left source.new)) (λ _. Takes I.tells (I.taken source.old) (I.left source.old) [] (I.taken source.new) (I.left source.new)) }
     ensures cause { HasCause (I.faults source.old) (I.faults source.new) result }
+    ensures counts { OnOk result (I.faults source.new ≡ I.faults source.old) }
     ensures len { vec_len piece.new ≡ vec_len piece.old }
 {
     read_front(source, piece.as_mut_slice(), room)
@@ -149,6 +151,7 @@ impl Wire {
         ensures fills { Fills I.tells (I.taken source.old) (I.left source.old) self.old result (I.taken source.new) (I.left source.new) self.new }
         ensures later { I.faults source.old ≤ I.faults source.new }
         ensures cause { result ≡ Err WireError.ReadFault → Rose (I.faults source.old) (I.faults source.new) }
+        ensures counts { CountsFault (I.faults source.old) result (I.faults source.new) }
     {
         if self.read == MAX_INPUT {
             return Err(WireError::TooMuch);
@@ -185,6 +188,7 @@ impl Wire {
         ensures asks { Asks I.tells (I.taken source.old) (I.left source.old) (I.taken source.new) (I.left source.new) limit self.old result self.new }
         ensures later { I.faults source.old ≤ I.faults source.new }
         ensures cause { result ≡ Err WireError.ReadFault → Rose (I.faults source.old) (I.faults source.new) }
+        ensures counts { CountsFault (I.faults source.old) result (I.faults source.new) }
     {
         loop {
             if let Some(request) = self.take_request(limit)? {
@@ -225,6 +229,7 @@ impl Wire {
         // Between two calls no more than a piece is held.
         ensures holds { length self.old.pending ≤ 65536 → length self.new.pending ≤ 65536 }
         ensures cause { WireCause (I.faults source.old) (I.faults source.new) self.old result }
+        ensures counts { CountsFault (I.faults source.old) result (I.faults source.new) }
     {
         match self.state {
             WireState::Open => {}

@@ -5,6 +5,7 @@
 --     Next               the bytes that the call took from the source, and its answer
 --     Again              what an ended or stopped reader answers
 --     LineCause          when a fault may be answered
+--     CountsFault        the source's count of faults, by the answer
 use Rattle.std.specs.Prelude.{◌≡◌, ◌≤◌, ◌<◌, ◌+◌, ◌⊎◌, ℕ, Bool, List, [], ◌∷◌, ◌++◌, length, Option, Some, None, Result, Ok, Err, IsTrue, ⊤}
 use Rattle.text_lines.specs.Lines.{HasNoLf, cut, ended_lines}
 use Rattle.lake_io.specs.Causes.{Rose}
@@ -121,6 +122,14 @@ Again s s' at result at' = AgainBy at.state s s' at result at'
 pub record LineCause (before now : ℕ) (at : At) (result : Result (Option Line) LineError) : Type 0 where
   pub later : before ≤ now
   pub failed : result ≡ Err error.ReadFault → (at.state ≡ state.Failed) ⊎ Rose before now
+
+-- the count of faults went up only where a fault is answered
+abbrev pub CountsFault : {A : Type 0} → ℕ → Result A LineError → ℕ → Type 0
+CountsFault before (Ok answer) now = now ≡ before
+CountsFault before (Err error.ReadFault) now = before ≤ now
+CountsFault before (Err (error.TooLong at)) now = now ≡ before
+CountsFault before (Err error.TooMuch) now = now ≡ before
+CountsFault before (Err error.Memory) now = now ≡ before
 
 -- what is held: no more than a piece is pending, and each line has at least one byte, the last one perhaps none
 pub record Holds (at : At) : Type 0 where

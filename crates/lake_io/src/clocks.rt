@@ -1,5 +1,6 @@
 //! Clocks.
-ghost use Rattle.std.specs.Prelude.{◌≡◌, Bool, true, false, ℤ, pos, ◌≤ℤ◌, IsTrue, IfSome};
+ghost use Rattle.std.specs.Prelude.{◌≡◌, Bool, true, false, ℤ, pos, ◌≤ℤ◌, IsTrue, IfSome, ◌/◌};
+ghost use Rattle.std.specs.Time.{system_time_nanos};
 
 use std::marker::Model;
 use std::rt::Clock as SystemTimer;
@@ -99,7 +100,13 @@ impl<R: SystemTimer + Drop> Clock for SystemClock<R> {
 fn system_ms<R: SystemTimer>(timer: &R) -> Option<i64>
     ensures { IfSome result (λ ms. pos 0 ≤ℤ ms) }
 {
-    let now = SystemTime::now(timer).ok()?;
-    let since = now.duration_since(UNIX_EPOCH).ok()?;
+    ms_since_1970(SystemTime::now(timer).ok()?)
+}
+
+/// The milliseconds from 1970 to this time, where 64 bits hold them.
+fn ms_since_1970(time: SystemTime) -> Option<i64>
+    ensures { IfSome result (λ ms. ms ≡ pos (system_time_nanos time / 1000000)) }
+{
+    let since = time.duration_since(UNIX_EPOCH).ok()?;
     i64::try_from(since.as_millis()).ok()
 }

@@ -1,7 +1,8 @@
 //! Sources of bytes.
-ghost use Rattle.std.specs.Prelude.{◌≡◌, ◌<◌, ◌↔◌, ℕ, Bool, true, false, List, [], length, drop, min, if◌then◌else◌, IsTrue, is_err, OnOk, MatchResult};
+ghost use Rattle.std.specs.Prelude.{◌≡◌, ◌<◌, ◌↔◌, ℕ, Bool, true, false, List, [], length, drop, min, if◌then◌else◌, IsTrue, is_err, IfOk, OnOk, MatchResult};
 ghost use Rattle.std.specs.Io.{ReadsAtMost};
-ghost use Rattle.lake_io.specs.Calls.{called, next_fails, uncalled};
+ghost use Rattle.std.specs.Io.KnownBytes.{ReadConsumes};
+ghost use Rattle.lake_io.specs.Calls.{called, counted, next_fails, uncalled};
 ghost use Rattle.lake_io.specs.Causes.{HasCause};
 ghost use Rattle.lake_io.specs.Memory.{SourceData, read_size};
 ghost use Rattle.lake_io.specs.Told.{Reads, Takes};
@@ -12,7 +13,7 @@ use std::io;
 use std::io::{ErrorKind, Read};
 use std::marker::Model;
 
-/// Where bytes come from. It counts its faults, and the count never falls.
+/// Where bytes come from. It counts its faults: the count never falls, and rises only in a read that fails.
 pub trait Source {
     /// Whether values of this type tell what they hold; what one that does not is said to hold never changes.
     ghost tells: { Bool };
@@ -27,7 +28,8 @@ pub trait Source {
     fn read(&mut self, into: &mut [u8]) -> Result<usize, ReadFault>
         requires { 0 < length into.old }
         ensures gives { MatchResult result (λ n. Reads tells (taken self.old) (left self.old) into.new n (taken self.new) (left self.new)) (λ _. Takes tells (taken self.old) (left self.old) [] (taken self.new) (left self.new)) }
-        ensures cause { HasCause (faults self.old) (faults self.new) result };
+        ensures cause { HasCause (faults self.old) (faults self.new) result }
+        ensures counts { OnOk result (faults self.new ≡ faults self.old) };
 }
 
 /// A source in memory. It gives its bytes in pieces, and fails the calls whose numbers, from 1, are in a list.
@@ -104,6 +106,7 @@ impl Source for MemSource {
         ensures counted { self.new.calls ≡ called self.old.calls }
         ensures gives { MatchResult result (λ n. Reads true self.old.taken self.old.left into.new n self.new.taken self.new.left) (λ _. Takes true self.old.taken self.old.left [] self.new.taken self.new.left) }
         ensures cause { HasCause self.old.calls.faults self.new.calls.faults result }
+        ensures counts { OnOk result (self.new.calls.faults ≡ self.old.calls.faults) }
     {
         if self.calls.next_fails() {
             return Err(ReadFault);
@@ -129,10 +132,18 @@ pub struct StdSource<R: Read + Drop> {
     faults: u64,
 }
 
+impl<R: Read + Drop> Model for StdSource<R> {
+    ghost use Rattle.lake_io.specs.Adapters.{Adapter};
+
+    ghost Value = { Adapter R };
+
+    ghost view = { λ s. record { over = s.reader; faults = s.faults } };
+}
+
 impl<R: Read + Drop> StdSource<R> {
     /// A source over this reader, of which no read has failed.
     pub fn new(reader: R) -> Self
-        ensures { ⟦<StdSource<R> as Source>⟧.faults result ≡ 0 }
+        ensures { result ≡ record { over = reader; faults = 0 } }
     {
         StdSource { reader, faults: 0 }
     }
@@ -147,8 +158,16 @@ impl<R: Read + Drop> Source for StdSource<R> {
 
     ghost left = { λ _. [] };
 
-    /// Reads once, and again where a signal interrupted the read. Any other error is a fault.
-    fn read(&mut self, into: &mut [u8]) -> Result<usize, ReadFault> {
+    /// Reads once, and again where a signal interrupted the read. Any other error is a fault. What the reader gives is handed on: no byte
+    /// of it is passed over.
+    fn read(&mut self, into: &mut [u8]) -> Result<usize, ReadFault>
+        requires { 0 < length into.old }
+        ensures hands_on { ReadConsumes (R.remaining self.old.over) (R.remaining self.new.over) result into.new }
+        ensures counted { self.new.faults ≡ (if is_err result then counted self.old.faults else self.old.faults) }
+        ensures gives { IfOk result (λ n. Reads false [] [] into.new n [] []) }
+        ensures cause { HasCause self.old.faults self.new.faults result }
+        ensures counts { OnOk result (self.new.faults ≡ self.old.faults) }
+    {
         match read_some(&mut self.reader, into) {
             Ok(n) => Ok(n),
             Err(_) => {
@@ -164,8 +183,10 @@ impl<R: Read + Drop> Source for StdSource<R> {
 /// How many times in a row a call is made again after a signal interrupted it.
 const TRIES: u32 = 1_000;
 
+/// One read that no signal interrupted, if it is among so many.
 fn read_some<R: Read>(reader: &mut R, into: &mut [u8]) -> io::Result<usize>
-    ensures { ReadsAtMost result into.new }
+    ensures bound { ReadsAtMost result into.new }
+    ensures bytes { ReadConsumes (R.remaining reader.old) (R.remaining reader.new) result into.new }
 {
     for _ in 1..TRIES {
         match reader.read(into) {

@@ -1,7 +1,8 @@
 //! Sinks of bytes.
-ghost use Rattle.std.specs.Prelude.{◌≡◌, ◌<◌, ℕ, Bool, true, false, List, [], ◌++◌, length, IsTrue, IsErr, OnOk, MatchResult};
+ghost use Rattle.std.specs.Prelude.{◌≡◌, ◌<◌, ℕ, Bool, true, false, List, [], ◌++◌, length, IsTrue, IsErr, is_err, IfOk, OnOk, OnErr, MatchResult, if◌then◌else◌};
 ghost use Rattle.std.specs.Io.{WritesAtMost};
-ghost use Rattle.lake_io.specs.Calls.{called, next_fails, uncalled};
+ghost use Rattle.std.specs.Io.KnownBytes.{WriteAppends};
+ghost use Rattle.lake_io.specs.Calls.{called, counted, faulted, next_fails, uncalled};
 ghost use Rattle.lake_io.specs.Causes.{HasCause};
 ghost use Rattle.lake_io.specs.Told.{Writes, WritesSome, told};
 
@@ -12,7 +13,7 @@ use std::io;
 use std::io::{ErrorKind, Write};
 use std::marker::Model;
 
-/// Where bytes go to. It counts its faults, and the count never falls.
+/// Where bytes go to. It counts its faults: the count never falls, and rises only in a write that fails.
 pub trait Sink {
     /// Whether values of this type tell what they hold; what one that does not is said to hold never changes.
     ghost tells: { Bool };
@@ -25,13 +26,15 @@ pub trait Sink {
     fn write(&mut self, from: &[u8]) -> Result<usize, WriteFault>
         requires { 0 < length from.now }
         ensures takes { MatchResult result (λ n. Writes tells (written self.old) from.now n (written self.new)) (λ _. written self.new ≡ written self.old) }
-        ensures cause { HasCause (faults self.old) (faults self.new) result };
+        ensures cause { HasCause (faults self.old) (faults self.new) result }
+        ensures counts { OnOk result (faults self.new ≡ faults self.old) };
 }
 
 /// Writes all of `bytes`. Where a write fails, a part was written that lacks at least the last byte. It takes no memory.
 pub fn put_all<K: Sink>(sink: &mut K, bytes: &[u8]) -> Result<(), WriteFault>
     ensures puts { MatchResult result (λ _. K.written sink.new ≡ K.written sink.old ++ told K.tells bytes.now) (λ _. WritesSome K.tells (K.written sink.old) bytes.now (K.written sink.new)) }
     ensures cause { HasCause (K.faults sink.old) (K.faults sink.new) result }
+    ensures counts { OnOk result (K.faults sink.new ≡ K.faults sink.old) }
 {
     let mut done = 0;
     while done < bytes.len() {
@@ -101,7 +104,9 @@ impl Sink for MemSink {
         ensures fails { IsTrue (next_fails self.old.calls) → IsErr result }
         ensures whole { OnOk result (self.new ≡ record { written = self.old.written ++ from.now; calls = called self.old.calls }) }
         ensures takes { MatchResult result (λ n. Writes true self.old.written from.now n self.new.written) (λ _. self.new.written ≡ self.old.written) }
+        ensures failed { OnErr result (self.new.calls ≡ (if next_fails self.old.calls then called self.old.calls else faulted (called self.old.calls))) }
         ensures cause { HasCause self.old.calls.faults self.new.calls.faults result }
+        ensures counts { OnOk result (self.new.calls.faults ≡ self.old.calls.faults) }
     {
         if self.calls.next_fails() {
             return Err(WriteFault);
@@ -123,10 +128,18 @@ pub struct StdSink<W: Write + Drop> {
     faults: u64,
 }
 
+impl<W: Write + Drop> Model for StdSink<W> {
+    ghost use Rattle.lake_io.specs.Adapters.{Adapter};
+
+    ghost Value = { Adapter W };
+
+    ghost view = { λ s. record { over = s.writer; faults = s.faults } };
+}
+
 impl<W: Write + Drop> StdSink<W> {
     /// A sink over this writer, of which no write has failed.
     pub fn new(writer: W) -> Self
-        ensures { ⟦<StdSink<W> as Sink>⟧.faults result ≡ 0 }
+        ensures { result ≡ record { over = writer; faults = 0 } }
     {
         StdSink { writer, faults: 0 }
     }
@@ -139,8 +152,16 @@ impl<W: Write + Drop> Sink for StdSink<W> {
 
     ghost written = { λ _. [] };
 
-    /// Writes once, and again where a signal interrupted the write. Any other error, and a writer that takes nothing, is a fault.
-    fn write(&mut self, from: &[u8]) -> Result<usize, WriteFault> {
+    /// Writes once, and again where a signal interrupted the write. Any other error, and a writer that takes nothing, is a fault. What
+    /// is answered as written is what the writer took.
+    fn write(&mut self, from: &[u8]) -> Result<usize, WriteFault>
+        requires { 0 < length from.now }
+        ensures hands_on { WriteAppends (W.contents self.old.over) (W.contents self.new.over) result from.now }
+        ensures counted { self.new.faults ≡ (if is_err result then counted self.old.faults else self.old.faults) }
+        ensures takes { IfOk result (λ n. Writes false [] from.now n []) }
+        ensures cause { HasCause self.old.faults self.new.faults result }
+        ensures counts { OnOk result (self.new.faults ≡ self.old.faults) }
+    {
         match write_some(&mut self.writer, from) {
             Ok(n) if n > 0 => Ok(n),
             _ => {
@@ -156,8 +177,10 @@ impl<W: Write + Drop> Sink for StdSink<W> {
 /// How many times in a row a call is made again after a signal interrupted it.
 const TRIES: u32 = 1_000;
 
+/// One write that no signal interrupted, if it is among so many.
 fn write_some<W: Write>(writer: &mut W, from: &[u8]) -> io::Result<usize>
-    ensures { WritesAtMost result from.now }
+    ensures bound { WritesAtMost result from.now }
+    ensures bytes { WriteAppends (W.contents writer.old) (W.contents writer.new) result from.now }
 {
     for _ in 1..TRIES {
         match writer.write(from) {

@@ -1,7 +1,7 @@
 //! The lines of a source.
 ghost use Rattle.std.specs.Prelude.{◌≡◌, ◌⊎◌, true, false, ◌<◌, ◌≤◌, ◌+◌, ◌++◌, ℕ, List, [], IfOk, OnOk, OnErr, MatchResult, MatchOption, length, min, take, vec_len, ⊤};
 ghost use Rattle.text_lines.specs.Lines.{HasNoLf};
-ghost use Rattle.lake_io.specs.Reading.{Again, Handed, Holds, LineCause, Next, at_start};
+ghost use Rattle.lake_io.specs.Reading.{Again, CountsFault, Handed, Holds, LineCause, Next, at_start};
 ghost use Rattle.lake_io.specs.Parts.{DoneLine, DoneNone, Fills, IsFirstLf, IsPart, Moves};
 ghost use Rattle.lake_io.specs.Causes.{HasCause, Rose};
 ghost use Rattle.lake_io.specs.Told.{Reads, Takes};
@@ -174,6 +174,7 @@ impl Lines {
         ensures next { Next S.tells (S.taken source.old) (S.left source.old) (S.taken source.new) (S.left source.new) self.old result self.new }
         ensures again { Again source.old source.new self.old result self.new }
         ensures cause { LineCause (S.faults source.old) (S.faults source.new) self.old result }
+        ensures counts { CountsFault (S.faults source.old) result (S.faults source.new) }
         ensures holds { Holds self.new }
     {
         match self.state {
@@ -194,6 +195,7 @@ impl Lines {
         ensures next { Next S.tells (S.taken source.old) (S.left source.old) (S.taken source.new) (S.left source.new) self.old result self.new }
         ensures later { S.faults source.old ≤ S.faults source.new }
         ensures cause { result ≡ Err LineError.ReadFault → Rose (S.faults source.old) (S.faults source.new) }
+        ensures counts { CountsFault (S.faults source.old) result (S.faults source.new) }
     {
         let mut part = Part::new(*self.piece.allocator());
         'parts: loop {
@@ -273,6 +275,7 @@ impl Lines {
         ensures fills { Fills S.tells (S.taken source.old) (S.left source.old) self.old result (S.taken source.new) (S.left source.new) self.new }
         ensures later { S.faults source.old ≤ S.faults source.new }
         ensures cause { result ≡ Err LineError.ReadFault → Rose (S.faults source.old) (S.faults source.new) }
+        ensures counts { CountsFault (S.faults source.old) result (S.faults source.new) }
     {
         if self.read == MAX_INPUT {
             self.state = InputState::Full;
@@ -312,6 +315,7 @@ fn read_front<S: Source>(source: &mut S, piece: &mut [u8], room: usize) -> Resul
     requires fits { room ≤ length piece.old }
     ensures gives { MatchResult result (λ n. Reads S.tells (S.taken source.old) (S.left source.old) (take room piece.new) n (S.taken source.new) (S.left source.new)) (λ _. Takes S.tells (S.taken source.old) (S.left source.old) [] (S.taken source.new) (S.left source.new)) }
     ensures cause { HasCause (S.faults source.old) (S.faults source.new) result }
+    ensures counts { OnOk result (S.faults source.new ≡ S.faults source.old) }
 {
     source.read(&mut piece[..room])
 }
@@ -326,6 +330,7 @@ fn read_piece<S: Source>(
     requires fits { room ≤ vec_len piece.old }
     ensures gives { MatchResult result (λ n. Reads S.tells (S.taken source.old) (S.left source.old) (take room piece.new.items) n (S.taken source.new) (S.left source.new)) (λ _. Takes S.tells (S.taken source.old) (S.left source.old) [] (S.taken source.new) (S.left source.new)) }
     ensures cause { HasCause (S.faults source.old) (S.faults source.new) result }
+    ensures counts { OnOk result (S.faults source.new ≡ S.faults source.old) }
     ensures len { vec_len piece.new ≡ vec_len piece.old }
 {
     read_front(source, piece.as_mut_slice(), room)

@@ -1,0 +1,6 @@
+-- The writes that a signal interrupted wrote nothing.
+use Rattle.std.specs.Io.KnownBytes.{Keeps}
+use Rattle.lake_io.proofs.output.write_some.Given as goal
+
+abbrev pub invariant-loop : goal.invariant-loop
+invariant-loop g l = Keeps (g.W.Write.contents l.fn.writer) (g.W.Write.contents l.writer)
