@@ -1,5 +1,5 @@
 -- What stays for one caller of a world in which others act.
-use Rattle.std.proofs.Common.{◌≡◌, ℕ, ℤ, List, Bool, sym, subst, arith}
+use Rattle.std.proofs.Common.{◌≡◌, ◌+◌, ◌-◌, ◌^◌, ℕ, ℤ, List, Bool, min, refl, sym, subst, arith}
 use Rattle.table_model.specs.World.{WorldData}
 use Rattle.table_model.specs.Knowledge.{Knowledge, IsGrown}
 use Rattle.table_model.specs.Holding.{HoldsIn, IsLater}
@@ -10,7 +10,9 @@ use Rattle.table_world.specs.declared.notes.Notes.{Notes}
 use Rattle.table_world.specs.Noted.{noted, known_of}
 use Rattle.table_world.specs.Done.{IsKnownIn, HasDone}
 use Rattle.table_world.proofs.TurnNotes.{known_moved}
-use Rattle.table_meddler.specs.Among.{LeadsTo, HasDoneAmong}
+use Rattle.table_meddler.specs.declared.foreign.Foreign.{Foreign}
+use Rattle.table_meddler.specs.Others.{AreMade}
+use Rattle.table_meddler.specs.Among.{Among, LeadsTo, IsMet, TakesTurn, HasDoneAmong}
 
 -- what is known is the same after turns of others
 pub known_same : (w x : WorldData) (n : Notes) → IsKnownIn w n → IsLater w x → known_of x n ≡ known_of w n
@@ -27,14 +29,16 @@ known_on w x n k l =
     }
 
 -- a turn of the caller after turns of others
-pub done_among : (L : Bool → Knowledge → Type 0) (T : Type 0) (w y x : WorldData) (n m : Notes) → IsKnownIn w n → LeadsTo w y
-    → HasDone T (L y.tells (known_of y n)) y n x m → HasDoneAmong (L w.tells (known_of w n)) w n x m
-done_among L T w y x n m k l h =
+pub done_among : (L : Bool → Knowledge → Type 0) (T : WorldData → WorldData → Type 0) (others : List Foreign) (number : ℕ) (w y x : WorldData) (n m : Notes)
+    → IsKnownIn w n → LeadsTo w y → AreMade others number w y
+    → HasDone (T y x) (L y.tells (known_of y n)) y n x m → HasDoneAmong (IsMet T others number w x) (L w.tells (known_of w n)) w n x m
+done_among L T others number w y x n m k l made h =
     let same : known_of y n ≡ known_of w n = known_same w y n k l.later in
     let P : Knowledge → Type 0 = λ j. L y.tells j in
     let Q : Bool → Type 0 = λ t. L t (known_of w n) in
     let G : Knowledge → Type 0 = λ j. IsGrown j (known_of x m) in
     record {
+      turned = record { between = y; made = made; turned = h.turned };
       learnt = subst Q l.later.tells (subst P same h.learnt);
       grows = subst G same h.grows;
       valid = h.valid;
@@ -63,3 +67,12 @@ may_publish_on w x n version text k l m =
 -- a condition on what is known alone
 pub may_on : (P : Knowledge → Type 0) (w x : WorldData) (n : Notes) → IsKnownIn w n → LeadsTo w x → P (known_of w n) → P (known_of x n)
 may_on P w x n k l m = subst P (sym (known_same w x n k l.later)) m
+
+-- one turn of the caller, as it is seen
+pub takes_turn : (T : WorldData → WorldData → Type 0) (a : Among) (w x : WorldData) (k m : Knowledge) (others given : List Foreign) (before number : ℕ)
+    → (let b : Among = record { world = w; known = k; others = others; turns = before } in b) ≡ a → given ≡ others → number ≡ min (before + 1) (2 ^ 64 - 1)
+    → IsMet T given number w x → TakesTurn T a (record { world = x; known = m; others = others; turns = number })
+takes_turn T a w x k m others given before number view same counted met =
+    let P : Among → Type 0 = λ b. TakesTurn T b (record { world = x; known = m; others = others; turns = number }) in
+    let Q : List Foreign → Type 0 = λ os. IsMet T os number w x in
+    subst P view (record { others = refl; counted = counted; met = subst Q same met })

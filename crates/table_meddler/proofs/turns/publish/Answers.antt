@@ -1,4 +1,5 @@
 use Rattle.table_model.specs.Learning.{LearnsPublish}
+use Rattle.table_model.specs.Turns.{PublishTurn}
 use Rattle.table_world.specs.Noted.{known_of}
 use Rattle.table_meddler.proofs.Afterwards.{known_on, done_among, may_publish_on}
 use Rattle.table_meddler.proofs.turns.publish.Goals as goal
@@ -10,4 +11,4 @@ pub publish-requires-clause-may : goal.publish-requires-clause-may
 publish-requires-clause-may g c = may_publish_on _ _ _ c.args.version c.args.bytes.now c.requires.known c.meddle.ensures.leads c.requires.may
 
 pub returns : goal.returns
-returns g c = done_among (λ t k. LearnsPublish c.args.version k c.publish.result (known_of c.publish.new.world c.publish.new.notes)) _ _ _ _ _ _ c.requires.known c.meddle.ensures.leads c.publish.ensures
+returns g c = done_among (λ t k. LearnsPublish c.args.version k c.publish.result (known_of c.publish.new.world c.publish.new.notes)) (λ w x. PublishTurn c.args.version c.args.bytes.now w c.publish.result x) c.args.others.now c.args.number _ _ _ _ _ c.requires.known c.meddle.ensures.leads c.meddle.ensures.made c.publish.ensures

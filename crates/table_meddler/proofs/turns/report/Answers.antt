@@ -1,5 +1,6 @@
 use Rattle.table_model.specs.Conditions.{MayReport}
 use Rattle.table_model.specs.Learning.{LearnsReport}
+use Rattle.table_model.specs.Turns.{ReportTurn}
 use Rattle.table_world.specs.Noted.{known_of}
 use Rattle.table_meddler.proofs.Afterwards.{known_on, done_among, may_on}
 use Rattle.table_meddler.proofs.turns.report.Goals as goal
@@ -11,4 +12,4 @@ pub report-requires-clause-may : goal.report-requires-clause-may
 report-requires-clause-may g c = may_on (λ k. MayReport k c.args.count) _ _ _ c.requires.known c.meddle.ensures.leads c.requires.may
 
 pub returns : goal.returns
-returns g c = done_among (λ t k. LearnsReport c.args.count k c.report.result (known_of c.report.new.world c.report.new.notes)) _ _ _ _ _ _ c.requires.known c.meddle.ensures.leads c.report.ensures
+returns g c = done_among (λ t k. LearnsReport c.args.count k c.report.result (known_of c.report.new.world c.report.new.notes)) (λ w x. ReportTurn c.args.count w c.report.result x) c.args.others.now c.args.number _ _ _ _ _ c.requires.known c.meddle.ensures.leads c.meddle.ensures.made c.report.ensures
