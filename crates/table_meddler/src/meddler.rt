@@ -94,7 +94,7 @@ impl<S: Store> Steps for Meddler<S> {
     }
 
     fn commits(&mut self, alloc: Global) -> Result<Commits, StepFault>
-        ensures among { TakesTurn (λ w x. CommitsTurn w result x) self.old self.new }
+        ensures among { TakesTurn CommitsTurn result self.old self.new }
         ensures turn { TellsTurn (λ w x. CommitsTurn w result x) None None }
         ensures learns { LearnsCommits S.tells self.old.known result self.new.known }
         ensures grows { IsGrown self.old.known self.new.known }
@@ -112,7 +112,7 @@ impl<S: Store> Steps for Meddler<S> {
     }
 
     fn list(&mut self, alloc: Global) -> Result<Vec<LogName>, StepFault>
-        ensures among { TakesTurn (λ w x. ListTurn w result x) self.old self.new }
+        ensures among { TakesTurn ListTurn result self.old self.new }
         ensures turn { TellsTurn (λ w x. ListTurn w result x) None None }
         ensures learns { LearnsList S.tells self.old.known result self.new.known }
         ensures grows { IsGrown self.old.known self.new.known }
@@ -131,7 +131,7 @@ impl<S: Store> Steps for Meddler<S> {
 
     fn get(&mut self, alloc: Global, name: LogName) -> Result<Bytes, StepFault>
         requires { IsSome (name_text name) }
-        ensures among { TakesTurn (λ w x. GetTurn name w result x) self.old self.new }
+        ensures among { TakesTurn (GetTurn name) result self.old self.new }
         ensures turn { TellsTurn (λ w x. GetTurn name w result x) None None }
         ensures learns { LearnsGet S.tells name self.old.known result self.new.known }
         ensures grows { IsGrown self.old.known self.new.known }
@@ -156,7 +156,7 @@ impl<S: Store> Steps for Meddler<S> {
         id: u128,
         bytes: &[u8],
     ) -> Result<Staged, StepFault>
-        ensures among { TakesTurn (λ w x. StageTurn version id bytes.now w result x) self.old self.new }
+        ensures among { TakesTurn (StageTurn version id bytes.now) result self.old self.new }
         ensures turn { TellsTurn (λ w x. StageTurn version id bytes.now w result x) None None }
         ensures learns { LearnsStage version id bytes.now self.old.known result self.new.known }
         ensures grows { IsGrown self.old.known self.new.known }
@@ -184,7 +184,7 @@ impl<S: Store> Steps for Meddler<S> {
         time: i64,
     ) -> Result<Ratify, StepFault>
         requires { MayRatify S.tells self.old.known version id time }
-        ensures among { TakesTurn (λ w x. RatifyTurn version id time w result x) self.old self.new }
+        ensures among { TakesTurn (RatifyTurn version id time) result self.old self.new }
         ensures turn { TellsTurn (λ w x. RatifyTurn version id time w result x) None None }
         ensures learns { LearnsRatify S.tells version id self.old.known result self.new.known }
         ensures grows { IsGrown self.old.known self.new.known }
@@ -206,7 +206,7 @@ impl<S: Store> Steps for Meddler<S> {
 
     fn publish(&mut self, alloc: Global, version: u64, bytes: &[u8]) -> Result<Put, StepFault>
         requires { MayPublish S.tells self.old.known version bytes.now }
-        ensures among { TakesTurn (λ w x. PublishTurn version bytes.now w result x) self.old self.new }
+        ensures among { TakesTurn (PublishTurn version bytes.now) result self.old self.new }
         ensures turn { TellsTurn (λ w x. PublishTurn version bytes.now w result x) None None }
         ensures learns { LearnsPublish version self.old.known result self.new.known }
         ensures grows { IsGrown self.old.known self.new.known }
@@ -227,7 +227,7 @@ impl<S: Store> Steps for Meddler<S> {
 
     fn report(&mut self, alloc: Global, count: u64) -> Result<u64, StepFault>
         requires { MayReport self.old.known count }
-        ensures among { TakesTurn (λ w x. ReportTurn count w result x) self.old self.new }
+        ensures among { TakesTurn (ReportTurn count) result self.old self.new }
         ensures turn { TellsTurn (λ w x. ReportTurn count w result x) None None }
         ensures learns { LearnsReport count self.old.known result self.new.known }
         ensures grows { IsGrown self.old.known self.new.known }
@@ -247,7 +247,7 @@ impl<S: Store> Steps for Meddler<S> {
 
     fn clear(&mut self, alloc: Global, version: u64, id: u128) -> Result<Gone, StepFault>
         requires { MayClear self.old.known version }
-        ensures among { TakesTurn (λ w x. ClearTurn version id w result x) self.old self.new }
+        ensures among { TakesTurn (ClearTurn version id) result self.old self.new }
         ensures turn { TellsTurn (λ w x. ClearTurn version id w result x) None None }
         ensures learns { LearnsClear version id self.old.known result self.new.known }
         ensures grows { IsGrown self.old.known self.new.known }

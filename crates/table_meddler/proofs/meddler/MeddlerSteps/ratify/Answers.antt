@@ -1,4 +1,3 @@
-use Rattle.std.proofs.Common.{arith}
 use mir.Syntax.{w64}
 use Rattle.std.proofs.lemmas.Int.{to_z-of_z}
 use Rattle.table_model.specs.Turns.{RatifyTurn}
@@ -7,4 +6,4 @@ use Rattle.table_meddler.proofs.meddler.MeddlerSteps.ratify.Goals as goal
 
 pub returns-clause-among : goal.returns-clause-among
 returns-clause-among g c =
-    takes_turn (λ w x. RatifyTurn c.args.version c.args.id c.args.time w c.ratify.result x) _ _ _ _ _ _ _ _ _ c.self.view_is c.as_slice.ensures.value (first_of (c.saturating_add-self-inside.ensures, omega arith)) (rw (to_z-of_z w64 c.args.time c.ranges.time) at c.ratify.ensures.turned)
+    takes_turn (RatifyTurn c.args.version c.args.id c.args.time) c.ratify.result _ _ _ _ _ _ _ _ _ c.self.view_is c.as_slice.ensures.value c.saturating_add-self-inside.ensures (rw (to_z-of_z w64 c.args.time c.ranges.time) at c.ratify.ensures.turned)
