@@ -41,7 +41,7 @@ pub enum Turn {
 }
 
 /// A turn of another caller, made before the caller's turn of the number `before`, counted from 1. It is passed over
-/// where its condition does not hold.
+/// where its condition does not hold, and left out where the store fails while that is tested.
 #[derive(Debug, Drop)]
 pub struct Foreign {
     pub before: u64,

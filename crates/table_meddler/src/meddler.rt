@@ -21,8 +21,9 @@ use table_model::{Staged, StepFault, Steps};
 use table_world::{Notes, World};
 
 /// One caller of a world in which others act between its turns: theirs are those of a list, each made before the
-/// caller's turn of its number and passed over where its condition does not hold. The caller keeps what it knows beside
-/// the world. What the others' turns cost the store is counted there, and not among the caller's faults.
+/// caller's turn of its number and passed over where its condition does not hold. Where memory is short at one of them,
+/// the caller's turn is refused for want of it. The caller keeps what it knows beside the world. What the others' turns
+/// cost the store is counted there, and not among the caller's faults.
 pub struct Meddler<S: Store> {
     world: World<S>,
     notes: Notes,

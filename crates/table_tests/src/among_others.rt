@@ -181,7 +181,10 @@ fn two_turns(
 #[test]
 fn a_commit_of_another_comes_between_two_turns(rt: HostRuntime) -> Result<(), Stop> {
     let alloc = rt.alloc();
-    assert_eq!(rt; two_turns(alloc, &ONE_VERSION, Vec::new(alloc))?, (0, 1, (1, 0)));
+    assert_eq!(rt;
+        two_turns(alloc, &ONE_VERSION, Vec::new(alloc))?,
+        (0, 1, (1, 0))
+    );
     Ok(())
 }
 
@@ -195,7 +198,10 @@ fn a_ratification_without_its_condition_is_passed_over(rt: HostRuntime) -> Resul
 #[test]
 fn versions_are_published_reported_and_cleared(rt: HostRuntime) -> Result<(), Stop> {
     let alloc = rt.alloc();
-    assert_eq!(rt; two_turns(alloc, &PUBLISHED, Vec::new(alloc))?, (2, 2, (2, 1)));
+    assert_eq!(rt;
+        two_turns(alloc, &PUBLISHED, Vec::new(alloc))?,
+        (2, 2, (2, 1))
+    );
     Ok(())
 }
 
