@@ -1,7 +1,9 @@
 -- The turns of other callers: who may make them, and the later world that each leads to.
 use Rattle.std.proofs.Common.{◌≡◌, ◌≢◌, ◌<◌, ◌≤◌, ◌^◌, inl, inr, ℕ, Bool, true, false, List, [], ◌∷◌, length, take, refl, sym, ◌∙◌, ap, subst, arith, IsTrue}
-use Rattle.std.specs.Prelude.{Result, ℤ, Vec, All, ◌==◌, ◌+◌, drop, get_or}
+use Rattle.std.specs.Result.{IsErr}
+use Rattle.std.specs.Prelude.{Result, Ok, Err, MatchResult, ℤ, Vec, All, ◌==◌, ◌+◌, drop, get_or}
 use Rattle.std.specs.declared.alloc.Global.{Global}
+use Rattle.std.specs.declared.alloc.AllocError.{AllocError}
 use Rattle.std.proofs.lemmas.List.{take_all, drop_more, drop_all}
 use Rattle.std.proofs.lemmas.List.Elements.{All-cons, All-nil}
 use Rattle.std.proofs.lemmas.Bool.{eq-eqb}
@@ -14,6 +16,7 @@ use Rattle.object_store.specs.declared.store.Put.{Put}
 use Rattle.object_store.specs.declared.store.Gone.{Gone}
 use Rattle.table_model.specs.declared.answers.Staged.{Staged}
 use Rattle.table_model.specs.declared.answers.StepFault.{StepFault}
+use Rattle.table_model.specs.declared.answers.StepFault.TheVariants.{Memory}
 use Rattle.table_model.specs.Log.{Commit, IsNextCommit}
 use Rattle.table_model.specs.World.{WorldData, log_of}
 use Rattle.table_model.specs.Consistency.{IsConsistent}
@@ -29,12 +32,13 @@ use Rattle.table_model.proofs.Reading.{outcome-list, outcome-get}
 use Rattle.table_model.proofs.Ratifying.{outcome-ratify}
 use Rattle.table_model.proofs.Calls.{outcome-stage, outcome-publish, outcome-report, outcome-clear}
 use Rattle.table_world.proofs.Kept.{Ratifiable, Publishable, Reportable, Clearable}
-use Rattle.table_meddler.specs.Others.{ArePublished, IsNextIn, IsCommitOf, IsRead, Meets, AreMade, IsDone}
+use Rattle.table_meddler.specs.Others.{ArePublished, IsNextIn, IsCommitOf, IsAnswered, IsRead, IsMade, Meets, AreMade, AreCutShort, IsDone}
 use Rattle.table_meddler.specs.Among.{LeadsTo}
-use Rattle.table_meddler.proofs.ReadWorlds.{read_tells, read_count}
+use Rattle.table_meddler.proofs.ReadWorlds.{read_same, read_trans, read_tells, read_count}
 use Rattle.table_meddler.specs.declared.foreign.Foreign.{Foreign}
 use Rattle.table_meddler.specs.declared.foreign.Turn.{Turn}
 use Rattle.table_meddler.specs.declared.foreign.Fate.{Fate}
+use Rattle.table_meddler.specs.declared.foreign.Fate.TheVariants.{Made}
 
 -- The knowledge of a caller who has seen the whole log.
 
@@ -189,6 +193,22 @@ pub leads_clear : (version id : ℕ) (w x : WorldData) (r : Result Gone StepFaul
     → ClearTurn version id w r x → IsConsistent x → LeadsTo w x
 leads_clear version id w x r c small tiny m t d = record { later = (outcome-clear version id w x m.0 r c m.1 small tiny m.2 t).later; consistent = d }
 
+-- What becomes of a turn, by its answer: want of memory leaves the world as it was read.
+
+pub refused_read : {A : Type 0} (T : Result A StepFault → Type 0) (answer : Result A StepFault) (w y x : WorldData) → (T (Err Memory) → x ≡ y) → T answer
+    → IsRead w y → IsConsistent x → answer ≡ Err Memory → IsRead w x
+refused_read T answer w y x same t r c e = read_trans w y x r (read_same y x (same (subst T e t)) c)
+
+pub meets_made : {A : Type 0} (t : Turn) (r : Result Fate AllocError) (answer : Result A StepFault) (w x : WorldData)
+    → MatchResult r (λ f. (f ≡ Made) × IsAnswered answer) (λ _. answer ≡ Err Memory) → (IsAnswered answer → IsMade t w x) → (answer ≡ Err Memory → IsRead w x)
+    → MatchResult r (λ f. Meets t f w x) (λ _. IsRead w x)
+meets_made t (Ok f) answer w x h made short = let P : Fate → Type 0 = λ g. Meets t g w x in subst P (sym h.0) (made h.1)
+meets_made t (Err e) answer w x h made short = short h
+
+pub refused_with : {A E : Type 0} (r : Result A E) (P : A → Type 0) (Q : Type 0) → IsErr r → Q → MatchResult r P (λ _. Q)
+refused_with (Ok a) P Q h q = cc
+refused_with (Err e) P Q h q = q
+
 -- one more turn of a list
 pub made_more : (turns : List Foreign) (index number : ℕ) (f : Foreign) (w y x : WorldData) → index < length turns → f ≡ get_or turns index f
     → IsDone (f.before == number) f.turn w y → AreMade (drop (index + 1) turns) number y x → AreMade (drop index turns) number w x
@@ -197,6 +217,22 @@ made_more turns index number f w y x less is done rest =
     let P : List Foreign → Type 0 = λ fs. AreMade fs number w x in
     let e : drop index turns ≡ f ∷ drop (index + 1) turns = drop_more turns index f less ∙ ap (λ (g : Foreign). g ∷ drop (index + 1) turns) (sym is) in
     subst P (sym e) (y, done, rest)
+
+pub cut_more : (turns : List Foreign) (index number : ℕ) (f : Foreign) (w y x : WorldData) → index < length turns → f ≡ get_or turns index f
+    → IsDone (f.before == number) f.turn w y → AreCutShort (drop (index + 1) turns) number y x → AreCutShort (drop index turns) number w x
+unfolding AreCutShort
+cut_more turns index number f w y x less is done rest =
+    let P : List Foreign → Type 0 = λ fs. AreCutShort fs number w x in
+    let e : drop index turns ≡ f ∷ drop (index + 1) turns = drop_more turns index f less ∙ ap (λ (g : Foreign). g ∷ drop (index + 1) turns) (sym is) in
+    subst P (sym e) (inr (y, done, rest))
+
+pub cut_here : (turns : List Foreign) (index number : ℕ) (f : Foreign) (w x : WorldData) → index < length turns → f ≡ get_or turns index f
+    → (f.before ≡ number) × IsRead w x → AreCutShort (drop index turns) number w x
+unfolding AreCutShort
+cut_here turns index number f w x less is here =
+    let P : List Foreign → Type 0 = λ fs. AreCutShort fs number w x in
+    let e : drop index turns ≡ f ∷ drop (index + 1) turns = drop_more turns index f less ∙ ap (λ (g : Foreign). g ∷ drop (index + 1) turns) (sym is) in
+    subst P (sym e) (inl here)
 
 pub made_end : (turns : List Foreign) (index number : ℕ) (w : WorldData) → length turns ≤ index → AreMade (drop index turns) number w w
 unfolding AreMade

@@ -1,6 +1,7 @@
 -- Reading of a world, and what the files say that were read.
 use Rattle.std.proofs.Common.{◌≡◌, ◌<◌, ◌≤◌, ◌+◌, ◌-◌, ◌⊎◌, inl, inr, ℕ, Bool, true, false, List, [], ◌∷◌, ◌++◌, length, take, refl, sym, ◌∙◌, ap, subst, arith, Option, Some, None, IsTrue, unwrap_or}
-use Rattle.std.specs.Prelude.{IfOk, Result, Ok, Err, Vec, MatchOption, is_some, slice_index_or}
+use Rattle.std.specs.Result.{IsErrAnd}
+use Rattle.std.specs.Prelude.{IfOk, IfErr, Result, Ok, Err, Vec, MatchOption, is_some, slice_index_or}
 use Rattle.std.specs.declared.alloc.Global.{Global}
 use Rattle.std.proofs.lemmas.List.{take_more, take_all, map-append}
 use Rattle.log_names.specs.declared.LogName.{LogName}
@@ -29,13 +30,22 @@ use Rattle.table_model.proofs.Growing.{le_trans}
 use Rattle.table_model.proofs.Worlds.{later_refl, later_trans, later_tally, below_or_above, holds-newcomer}
 use Rattle.table_model.proofs.Knowing.{log_commit, commit_file, length-log_of}
 use Rattle.table_meddler.specs.Others.{IsRead, ArePublished}
-use Rattle.table_meddler.specs.Judging.{Tests, items_of}
+use Rattle.table_meddler.specs.Judging.{Tests, ShowsIn, items_of}
 use Rattle.table_meddler.specs.Among.{LeadsTo}
 
 -- what follows of an answer that is Ok
 pub if_ok : {A E : Type 0} (r : Result A E) (P Q : A → Type 0) → ((a : A) → P a → Q a) → IfOk r P → IfOk r Q
 if_ok (Ok a) P Q more h = more a h
 if_ok (Err e) P Q more h = tt
+
+pub if_err : {A E : Type 0} (r : Result A E) (P Q : E → Type 0) → ((e : E) → P e → Q e) → IfErr r P → IfErr r Q
+if_err (Ok a) P Q more h = tt
+if_err (Err e) P Q more h = more e h
+
+-- an error that is handed on
+pub handed : {A E : Type 0} (r : Result A E) (e : E) (P : E → Type 0) → IsErrAnd r (λ x. x ≡ e) → P e → IfErr r P
+handed (Ok a) e P h p = tt
+handed (Err x) e P h p = subst P (sym h) p
 
 pub read_same : (w x : WorldData) → x ≡ w → IsConsistent x → IsRead w x
 read_same w x e c = record {
@@ -66,6 +76,23 @@ pub commits_read : (w x : WorldData) (r : Result Commits StepFault) → IsConsis
 commits_read w x (Ok a) c t = read_same w x t.1 c
 commits_read w x (Err Memory) c t = read_same w x t c
 commits_read w x (Err (Fault at)) c t = absurd t
+
+-- a fault that a reading meets shows in the store's count
+
+pub get_shown : (n : LogName) (w x : WorldData) (e : StepFault) → GetTurn n w (Err e) x → ShowsIn w.tally x.tally e
+get_shown n w x (Fault at) t = t.1.rose
+get_shown n w x Memory t = tt
+
+pub commits_shown : (w x : WorldData) (e : StepFault) → CommitsTurn w (Err e) x → ShowsIn w.tally x.tally e
+commits_shown w x (Fault at) t = absurd t
+commits_shown w x Memory t = tt
+
+pub shown_later : (before between now : ℕ) (e : StepFault) → before ≤ between → ShowsIn between now e → ShowsIn before now e
+shown_later before between now (Fault at) le h = omega arith
+shown_later before between now Memory le h = tt
+
+pub memory_shown : (before now : ℕ) (e : StepFault) → e ≡ Memory → ShowsIn before now e
+memory_shown before now e is = subst (ShowsIn before now) (sym is) tt
 
 pub read_files : (w x : WorldData) → IsRead w x → (n : LogName) → file_at x.files n ≡ file_at w.files n
 read_files w x r n = ap (λ (z : WorldData). file_at z.files n) r.same

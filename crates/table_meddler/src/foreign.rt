@@ -41,7 +41,7 @@ pub enum Turn {
 }
 
 /// A turn of another caller, made before the caller's turn of the number `before`, counted from 1. It is passed over
-/// where its condition does not hold.
+/// where its condition does not hold, and left out where the store fails while that is tested.
 #[derive(Debug, Drop)]
 pub struct Foreign {
     pub before: u64,
@@ -51,10 +51,10 @@ pub struct Foreign {
 /// What became of a turn of another caller.
 #[derive(Clone, Copy, Debug, PartialEq, Eq)]
 pub(crate) enum Fate {
-    /// It was made, whatever it answered.
+    /// It was made, whatever the store answered.
     Made,
     /// It was passed over: its condition does not hold.
     Passed,
-    /// It was left out: the store failed while its condition was tested, or there was want of memory.
+    /// It was left out: the store failed while its condition was tested.
     Untested,
 }

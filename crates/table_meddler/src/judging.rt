@@ -1,6 +1,6 @@
 //! Whether the condition of another caller's turn holds.
 
-ghost use Rattle.std.specs.Prelude.{◌≡◌, ◌<◌, ◌≤◌, ◌↔◌, ℕ, [], ◌∷◌, pos, IsTrue, IfOk, length, unwrap_or, true};
+ghost use Rattle.std.specs.Prelude.{◌≡◌, ◌<◌, ◌≤◌, ◌↔◌, ℕ, [], ◌∷◌, pos, IsTrue, IfOk, IfErr, length, unwrap_or, true};
 ghost use Rattle.action_types.specs.declared.actions.Action.{Action};
 ghost use Rattle.reconcile.specs.Replay.{Log, time_of_log};
 ghost use Rattle.reconcile.specs.Standing.{StandsFor};
@@ -8,7 +8,7 @@ ghost use Rattle.table_rules.specs.Broken.{first_broken};
 ghost use Rattle.std.specs.Prelude.{None};
 ghost use Rattle.table_model.specs.Consistency.{IsConsistent};
 ghost use Rattle.table_meddler.specs.Others.{IsRead, ArePublished, IsNextIn, IsCommitOf};
-ghost use Rattle.table_meddler.specs.Judging.{Tests};
+ghost use Rattle.table_meddler.specs.Judging.{Tests, ShowsIn};
 
 use crate::reading::{actions_in, are_published, commit_bytes, file, log_state};
 use action_types::Action;
@@ -22,7 +22,8 @@ use table_world::World;
 
 /// The in-commit timestamp of a commit, in milliseconds since 1970 UTC; 0 where it has none.
 fn time_of(alloc: Global, actions: &[Action]) -> Result<i64, StepFault>
-    ensures { IfOk result (λ time. time ≡ unwrap_or (time_of_log (actions.now ∷ [])) (pos 0)) }
+    ensures memory { IfErr result (λ e. e ≡ StepFault.Memory) }
+    ensures time { IfOk result (λ time. time ≡ unwrap_or (time_of_log (actions.now ∷ [])) (pos 0)) }
 {
     let state = State::empty(alloc).apply(actions)?;
     Ok(state.time().unwrap_or(0))
@@ -30,7 +31,8 @@ fn time_of(alloc: Global, actions: &[Action]) -> Result<i64, StepFault>
 
 /// Whether the actions break no rule as the next commit of a table in this state.
 fn keeps_rules(alloc: Global, state: &State, actions: &[Action]) -> Result<bool, StepFault>
-    ensures { IfOk result (λ answer. (log : Log) → StandsFor state.now log → IsTrue answer ↔ (first_broken log actions.now ≡ None)) }
+    ensures memory { IfErr result (λ e. e ≡ StepFault.Memory) }
+    ensures kept { IfOk result (λ answer. (log : Log) → StandsFor state.now log → IsTrue answer ↔ (first_broken log actions.now ≡ None)) }
 {
     match check_next(alloc, state, actions) {
         Ok(()) => Ok(true),
@@ -49,6 +51,7 @@ pub(crate) fn may_ratify<S: Store>(
 ) -> Result<bool, StepFault>
     requires consistent { IsConsistent world.old }
     ensures read { IsRead world.old world.new }
+    ensures fault { IfErr result (ShowsIn world.old.tally world.new.tally) }
     ensures next { IfOk result (λ answer. answer ≡ true → version ≡ length world.old.records) }
     ensures tests { IfOk result (λ answer. Tests world.old.tells answer (IsNextIn world.old version id time)) }
 {
@@ -79,6 +82,7 @@ pub(crate) fn may_publish<S: Store>(
 ) -> Result<bool, StepFault>
     requires consistent { IsConsistent world.old }
     ensures read { IsRead world.old world.new }
+    ensures fault { IfErr result (ShowsIn world.old.tally world.new.tally) }
     ensures ratified { IfOk result (λ answer. answer ≡ true → version < length world.old.records) }
     ensures tests { IfOk result (λ answer. Tests world.old.tells answer (IsCommitOf world.old version bytes.now)) }
 {
@@ -102,6 +106,7 @@ pub(crate) fn may_report<S: Store>(
 ) -> Result<bool, StepFault>
     requires consistent { IsConsistent world.old }
     ensures read { IsRead world.old world.new }
+    ensures fault { IfErr result (ShowsIn world.old.tally world.new.tally) }
     ensures ratified { IfOk result (λ answer. answer ≡ true → count ≤ length world.old.records) }
     ensures tests { IfOk result (λ answer. Tests world.old.tells answer (ArePublished world.old count)) }
 {
@@ -115,6 +120,7 @@ pub(crate) fn may_report<S: Store>(
 pub(crate) fn may_clear<S: Store>(world: &mut World<S>, version: u64) -> Result<bool, StepFault>
     requires consistent { IsConsistent world.old }
     ensures read { IsRead world.old world.new }
+    ensures fault { IfErr result (ShowsIn world.old.tally world.new.tally) }
     ensures reported { IfOk result (λ answer. IsTrue answer ↔ (version < world.old.reported)) }
 {
     let commits = world.commits()?;

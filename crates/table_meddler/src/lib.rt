@@ -15,6 +15,3 @@ pub use table_model::{
     Spot, Staged, StepFault, Steps, Try,
 };
 pub use table_world::World;
-
-#[cfg(test)]
-mod tests;

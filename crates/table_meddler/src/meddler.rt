@@ -1,9 +1,13 @@
-ghost use Rattle.std.specs.Prelude.{◌≡◌, None};
+ghost use Rattle.std.specs.Prelude.{◌≡◌, IsSome, None};
+ghost use Rattle.log_names.specs.Texts.{name_text};
 ghost use Rattle.table_model.specs.World.{WorldData};
 ghost use Rattle.table_model.specs.Consistency.{IsConsistent};
-ghost use Rattle.table_model.specs.Knowledge.{at_start};
+ghost use Rattle.table_model.specs.Knowledge.{IsGrown, IsValid, at_start};
 ghost use Rattle.table_model.specs.Holding.{terms_of};
-ghost use Rattle.table_meddler.specs.Among.{IsAmongAfter};
+ghost use Rattle.table_model.specs.Turns.{TellsTurn, CommitsTurn, ListTurn, GetTurn, StageTurn, RatifyTurn, PublishTurn, ReportTurn, ClearTurn};
+ghost use Rattle.table_model.specs.Conditions.{MayRatify, MayPublish, MayReport, MayClear};
+ghost use Rattle.table_model.specs.Learning.{LearnsCommits, LearnsList, LearnsGet, LearnsStage, LearnsRatify, LearnsPublish, LearnsReport, LearnsClear};
+ghost use Rattle.table_meddler.specs.Among.{IsAmongAfter, TakesTurn};
 ghost use Rattle.table_meddler.specs.Lasting.{among_refl, among_trans};
 
 use crate::foreign::Foreign;
@@ -17,8 +21,9 @@ use table_model::{Staged, StepFault, Steps};
 use table_world::{Notes, World};
 
 /// One caller of a world in which others act between its turns: theirs are those of a list, each made before the
-/// caller's turn of its number and passed over where its condition does not hold. The caller keeps what it knows beside
-/// the world. What the others' turns cost the store is counted there, and not among the caller's faults.
+/// caller's turn of its number and passed over where its condition does not hold. Where memory is short at one of them,
+/// the caller's turn is refused for want of it. The caller keeps what it knows beside the world. What the others' turns
+/// cost the store is counted there, and not among the caller's faults.
 pub struct Meddler<S: Store> {
     world: World<S>,
     notes: Notes,
@@ -38,7 +43,7 @@ impl<S: Store> Model for Meddler<S> {
 
     ghost coded = { Prim.hlevel (codes, files_code) };
 
-    ghost view = { λ m. record { world = m.world; known = known_of m.world m.notes } };
+    ghost view = { λ m. record { world = m.world; known = known_of m.world m.notes; others = m.others.items; turns = m.turns } };
 
     ghost invariant = { λ m. IsKnownIn m.world m.notes × (m.world.tells ≡ S.tells) };
 }
@@ -49,6 +54,8 @@ impl<S: Store> Meddler<S> {
     pub fn new(alloc: Global, world: World<S>, turns: Vec<Foreign>) -> Meddler<S>
         ensures world { result.world ≡ world }
         ensures nothing { result.known ≡ at_start (terms_of world) }
+        ensures others { result.others ≡ turns.items }
+        ensures turns { result.turns ≡ 0 }
     {
         let _count = world.count();
         Meddler {
@@ -87,7 +94,14 @@ impl<S: Store> Steps for Meddler<S> {
         self.world.limits()
     }
 
-    fn commits(&mut self, alloc: Global) -> Result<Commits, StepFault> {
+    fn commits(&mut self, alloc: Global) -> Result<Commits, StepFault>
+        ensures among { TakesTurn CommitsTurn result self.old self.new }
+        ensures turn { TellsTurn (λ w x. CommitsTurn w result x) None None }
+        ensures learns { LearnsCommits S.tells self.old.known result self.new.known }
+        ensures grows { IsGrown self.old.known self.new.known }
+        ensures valid { IsValid self.new.known }
+        ensures after { IsAmongAfter self.old self.new }
+    {
         self.turns = self.turns.saturating_add(1);
         turns::commits(
             &mut self.world,
@@ -98,7 +112,14 @@ impl<S: Store> Steps for Meddler<S> {
         )
     }
 
-    fn list(&mut self, alloc: Global) -> Result<Vec<LogName>, StepFault> {
+    fn list(&mut self, alloc: Global) -> Result<Vec<LogName>, StepFault>
+        ensures among { TakesTurn ListTurn result self.old self.new }
+        ensures turn { TellsTurn (λ w x. ListTurn w result x) None None }
+        ensures learns { LearnsList S.tells self.old.known result self.new.known }
+        ensures grows { IsGrown self.old.known self.new.known }
+        ensures valid { IsValid self.new.known }
+        ensures after { IsAmongAfter self.old self.new }
+    {
         self.turns = self.turns.saturating_add(1);
         turns::list(
             &mut self.world,
@@ -109,7 +130,15 @@ impl<S: Store> Steps for Meddler<S> {
         )
     }
 
-    fn get(&mut self, alloc: Global, name: LogName) -> Result<Bytes, StepFault> {
+    fn get(&mut self, alloc: Global, name: LogName) -> Result<Bytes, StepFault>
+        requires { IsSome (name_text name) }
+        ensures among { TakesTurn (GetTurn name) result self.old self.new }
+        ensures turn { TellsTurn (λ w x. GetTurn name w result x) None None }
+        ensures learns { LearnsGet S.tells name self.old.known result self.new.known }
+        ensures grows { IsGrown self.old.known self.new.known }
+        ensures valid { IsValid self.new.known }
+        ensures after { IsAmongAfter self.old self.new }
+    {
         self.turns = self.turns.saturating_add(1);
         turns::get(
             &mut self.world,
@@ -127,7 +156,14 @@ impl<S: Store> Steps for Meddler<S> {
         version: u64,
         id: u128,
         bytes: &[u8],
-    ) -> Result<Staged, StepFault> {
+    ) -> Result<Staged, StepFault>
+        ensures among { TakesTurn (StageTurn version id bytes.now) result self.old self.new }
+        ensures turn { TellsTurn (λ w x. StageTurn version id bytes.now w result x) None None }
+        ensures learns { LearnsStage version id bytes.now self.old.known result self.new.known }
+        ensures grows { IsGrown self.old.known self.new.known }
+        ensures valid { IsValid self.new.known }
+        ensures after { IsAmongAfter self.old self.new }
+    {
         self.turns = self.turns.saturating_add(1);
         turns::stage(
             &mut self.world,
@@ -147,7 +183,15 @@ impl<S: Store> Steps for Meddler<S> {
         version: u64,
         id: u128,
         time: i64,
-    ) -> Result<Ratify, StepFault> {
+    ) -> Result<Ratify, StepFault>
+        requires { MayRatify S.tells self.old.known version id time }
+        ensures among { TakesTurn (RatifyTurn version id time) result self.old self.new }
+        ensures turn { TellsTurn (λ w x. RatifyTurn version id time w result x) None None }
+        ensures learns { LearnsRatify S.tells version id self.old.known result self.new.known }
+        ensures grows { IsGrown self.old.known self.new.known }
+        ensures valid { IsValid self.new.known }
+        ensures after { IsAmongAfter self.old self.new }
+    {
         self.turns = self.turns.saturating_add(1);
         turns::ratify(
             &mut self.world,
@@ -161,7 +205,15 @@ impl<S: Store> Steps for Meddler<S> {
         )
     }
 
-    fn publish(&mut self, alloc: Global, version: u64, bytes: &[u8]) -> Result<Put, StepFault> {
+    fn publish(&mut self, alloc: Global, version: u64, bytes: &[u8]) -> Result<Put, StepFault>
+        requires { MayPublish S.tells self.old.known version bytes.now }
+        ensures among { TakesTurn (PublishTurn version bytes.now) result self.old self.new }
+        ensures turn { TellsTurn (λ w x. PublishTurn version bytes.now w result x) None None }
+        ensures learns { LearnsPublish version self.old.known result self.new.known }
+        ensures grows { IsGrown self.old.known self.new.known }
+        ensures valid { IsValid self.new.known }
+        ensures after { IsAmongAfter self.old self.new }
+    {
         self.turns = self.turns.saturating_add(1);
         turns::publish(
             &mut self.world,
@@ -174,7 +226,15 @@ impl<S: Store> Steps for Meddler<S> {
         )
     }
 
-    fn report(&mut self, alloc: Global, count: u64) -> Result<u64, StepFault> {
+    fn report(&mut self, alloc: Global, count: u64) -> Result<u64, StepFault>
+        requires { MayReport self.old.known count }
+        ensures among { TakesTurn (ReportTurn count) result self.old self.new }
+        ensures turn { TellsTurn (λ w x. ReportTurn count w result x) None None }
+        ensures learns { LearnsReport count self.old.known result self.new.known }
+        ensures grows { IsGrown self.old.known self.new.known }
+        ensures valid { IsValid self.new.known }
+        ensures after { IsAmongAfter self.old self.new }
+    {
         self.turns = self.turns.saturating_add(1);
         turns::report(
             &mut self.world,
@@ -186,7 +246,15 @@ impl<S: Store> Steps for Meddler<S> {
         )
     }
 
-    fn clear(&mut self, alloc: Global, version: u64, id: u128) -> Result<Gone, StepFault> {
+    fn clear(&mut self, alloc: Global, version: u64, id: u128) -> Result<Gone, StepFault>
+        requires { MayClear self.old.known version }
+        ensures among { TakesTurn (ClearTurn version id) result self.old self.new }
+        ensures turn { TellsTurn (λ w x. ClearTurn version id w result x) None None }
+        ensures learns { LearnsClear version id self.old.known result self.new.known }
+        ensures grows { IsGrown self.old.known self.new.known }
+        ensures valid { IsValid self.new.known }
+        ensures after { IsAmongAfter self.old self.new }
+    {
         self.turns = self.turns.saturating_add(1);
         turns::clear(
             &mut self.world,

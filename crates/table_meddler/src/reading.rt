@@ -1,6 +1,6 @@
 //! What is read of a world: files, commits, and the state after all of them.
 
-ghost use Rattle.std.specs.Prelude.{◌≡◌, ◌<◌, ℕ, IsTrue, IsSome, IfOk, MatchOption, length, is_some};
+ghost use Rattle.std.specs.Prelude.{◌≡◌, ◌<◌, ℕ, IsTrue, IsSome, IfOk, IfErr, MatchOption, length, is_some};
 ghost use Rattle.log_names.specs.Texts.{name_text};
 ghost use Rattle.log_names.specs.declared.LogName.TheVariants as name;
 ghost use Rattle.action_json.specs.Text.{IsCommitText, actions_of};
@@ -10,7 +10,7 @@ ghost use Rattle.table_model.specs.Log.{commit_at, history};
 ghost use Rattle.table_model.specs.World.{stands, log_of, entry_at};
 ghost use Rattle.table_model.specs.Consistency.{IsConsistent};
 ghost use Rattle.table_meddler.specs.Others.{IsRead, ArePublished};
-ghost use Rattle.table_meddler.specs.Judging.{Tests, items_of};
+ghost use Rattle.table_meddler.specs.Judging.{Tests, ShowsIn, items_of};
 
 use action_json::{BadCommit, read_commit};
 use action_types::Action;
@@ -29,6 +29,7 @@ pub(crate) fn file<S: Store>(
 ) -> Result<Option<Vec<u8>>, StepFault>
     requires text { IsSome (name_text name) }
     ensures read { IsRead world.old world.new }
+    ensures fault { IfErr result (ShowsIn world.old.tally world.new.tally) }
     ensures file { IfOk result (λ found. IsTrue world.old.tells → file_at world.old.files name ≡ items_of found) }
 {
     match world.get(alloc, name) {
@@ -45,6 +46,7 @@ fn is_published<S: Store>(
     version: u64,
 ) -> Result<bool, StepFault>
     ensures read { IsRead world.old world.new }
+    ensures fault { IfErr result (ShowsIn world.old.tally world.new.tally) }
     ensures stands { IfOk result (λ answer. IsTrue world.old.tells → stands world.old (name.Published version) ≡ answer) }
 {
     let found = file(world, alloc, LogName::Published(version))?;
@@ -59,6 +61,7 @@ pub(crate) fn are_published<S: Store>(
 ) -> Result<bool, StepFault>
     requires consistent { IsConsistent world.old }
     ensures read { IsRead world.old world.new }
+    ensures fault { IfErr result (ShowsIn world.old.tally world.new.tally) }
     ensures tests { IfOk result (λ answer. Tests world.old.tells answer (ArePublished world.old count)) }
 {
     if count == 0 {
@@ -72,6 +75,7 @@ fn recorded_id<S: Store>(world: &mut World<S>, version: u64) -> Result<Option<u1
     requires consistent { IsConsistent world.old }
     requires ratified { version < length world.old.records }
     ensures read { IsRead world.old world.new }
+    ensures fault { IfErr result (ShowsIn world.old.tally world.new.tally) }
     ensures id { IfOk result (λ found. MatchOption found (version < world.old.reported) (λ id. id ≡ (entry_at world.old.records version).id)) }
 {
     let commits = world.commits()?;
@@ -90,6 +94,7 @@ pub(crate) fn commit_bytes<S: Store>(
     requires consistent { IsConsistent world.old }
     requires ratified { version < length world.old.records }
     ensures read { IsRead world.old world.new }
+    ensures fault { IfErr result (ShowsIn world.old.tally world.new.tally) }
     ensures bytes { IfOk result (λ found. IsTrue world.old.tells → MatchOption found ⊥ (λ bytes. bytes.items ≡ (commit_at (log_of world.old) version).bytes)) }
 {
     match file(world, alloc, LogName::Published(version))? {
@@ -104,7 +109,8 @@ pub(crate) fn commit_bytes<S: Store>(
 
 /// The actions of a commit's text; none where the bytes are no commit text. Refused for want of memory alone.
 pub(crate) fn actions_in(alloc: Global, bytes: &[u8]) -> Result<Option<Vec<Action>>, StepFault>
-    ensures { IfOk result (λ found. MatchOption found (¬ (IsCommitText bytes.now (actions_of bytes.now))) (λ v. IsCommitText bytes.now (actions_of bytes.now) × (v.items ≡ actions_of bytes.now))) }
+    ensures memory { IfErr result (λ e. e ≡ StepFault.Memory) }
+    ensures actions { IfOk result (λ found. MatchOption found (¬ (IsCommitText bytes.now (actions_of bytes.now))) (λ v. IsCommitText bytes.now (actions_of bytes.now) × (v.items ≡ actions_of bytes.now))) }
 {
     match read_commit(alloc, bytes) {
         Ok(actions) => Ok(Some(actions)),
@@ -122,6 +128,7 @@ fn commit_actions<S: Store>(
     requires consistent { IsConsistent world.old }
     requires ratified { version < length world.old.records }
     ensures read { IsRead world.old world.new }
+    ensures fault { IfErr result (ShowsIn world.old.tally world.new.tally) }
     ensures actions { IfOk result (λ found. IsTrue world.old.tells → MatchOption found ⊥ (λ v. v.items ≡ actions_of (commit_at (log_of world.old) version).bytes)) }
 {
     let Some(bytes) = commit_bytes(world, alloc, version)? else {
@@ -137,6 +144,7 @@ pub(crate) fn log_state<S: Store>(
 ) -> Result<Option<State>, StepFault>
     requires consistent { IsConsistent world.old }
     ensures read { IsRead world.old world.new }
+    ensures fault { IfErr result (ShowsIn world.old.tally world.new.tally) }
     ensures state { IfOk result (λ found. IsTrue world.old.tells → MatchOption found ⊥ (λ s. StandsFor s (history (log_of world.old)))) }
 {
     let mut state = State::empty(alloc);

@@ -2,11 +2,12 @@
 
 ghost use Rattle.std.specs.Prelude.{IsSome};
 ghost use Rattle.log_names.specs.Texts.{name_text};
+ghost use Rattle.table_model.specs.Turns.{CommitsTurn, ListTurn, GetTurn, StageTurn, RatifyTurn, PublishTurn, ReportTurn, ClearTurn};
 ghost use Rattle.table_model.specs.Conditions.{MayRatify, MayPublish, MayReport, MayClear};
 ghost use Rattle.table_model.specs.Learning.{LearnsCommits, LearnsList, LearnsGet, LearnsStage, LearnsRatify, LearnsPublish, LearnsReport, LearnsClear};
 ghost use Rattle.table_world.specs.Noted.{known_of};
 ghost use Rattle.table_world.specs.Done.{IsKnownIn};
-ghost use Rattle.table_meddler.specs.Among.{HasDoneAmong};
+ghost use Rattle.table_meddler.specs.Among.{HasDoneAmong, IsMet};
 
 use crate::foreign::Foreign;
 use crate::making::meddle;
@@ -26,9 +27,9 @@ pub(crate) fn commits<S: Store>(
     alloc: Global,
 ) -> Result<Commits, StepFault>
     requires known { IsKnownIn world.old notes.old }
-    ensures { HasDoneAmong (LearnsCommits world.old.tells (known_of world.old notes.old) result (known_of world.new notes.new)) world.old notes.old world.new notes.new }
+    ensures { HasDoneAmong (IsMet CommitsTurn result others.now number world.old world.new) (LearnsCommits world.old.tells (known_of world.old notes.old) result (known_of world.new notes.new)) world.old notes.old world.new notes.new }
 {
-    meddle(world, alloc, others, number);
+    meddle(world, alloc, others, number)?;
     turns::commits(world, notes)
 }
 
@@ -41,9 +42,9 @@ pub(crate) fn list<S: Store>(
     alloc: Global,
 ) -> Result<Vec<LogName>, StepFault>
     requires known { IsKnownIn world.old notes.old }
-    ensures { HasDoneAmong (LearnsList world.old.tells (known_of world.old notes.old) result (known_of world.new notes.new)) world.old notes.old world.new notes.new }
+    ensures { HasDoneAmong (IsMet ListTurn result others.now number world.old world.new) (LearnsList world.old.tells (known_of world.old notes.old) result (known_of world.new notes.new)) world.old notes.old world.new notes.new }
 {
-    meddle(world, alloc, others, number);
+    meddle(world, alloc, others, number)?;
     turns::list(world, notes, alloc)
 }
 
@@ -58,9 +59,9 @@ pub(crate) fn get<S: Store>(
 ) -> Result<Bytes, StepFault>
     requires known { IsKnownIn world.old notes.old }
     requires text { IsSome (name_text name) }
-    ensures { HasDoneAmong (LearnsGet world.old.tells name (known_of world.old notes.old) result (known_of world.new notes.new)) world.old notes.old world.new notes.new }
+    ensures { HasDoneAmong (IsMet (GetTurn name) result others.now number world.old world.new) (LearnsGet world.old.tells name (known_of world.old notes.old) result (known_of world.new notes.new)) world.old notes.old world.new notes.new }
 {
-    meddle(world, alloc, others, number);
+    meddle(world, alloc, others, number)?;
     turns::get(world, notes, alloc, name)
 }
 
@@ -76,9 +77,9 @@ pub(crate) fn stage<S: Store>(
     bytes: &[u8],
 ) -> Result<Staged, StepFault>
     requires known { IsKnownIn world.old notes.old }
-    ensures { HasDoneAmong (LearnsStage version id bytes.now (known_of world.old notes.old) result (known_of world.new notes.new)) world.old notes.old world.new notes.new }
+    ensures { HasDoneAmong (IsMet (StageTurn version id bytes.now) result others.now number world.old world.new) (LearnsStage version id bytes.now (known_of world.old notes.old) result (known_of world.new notes.new)) world.old notes.old world.new notes.new }
 {
-    meddle(world, alloc, others, number);
+    meddle(world, alloc, others, number)?;
     turns::stage(world, notes, alloc, version, id, bytes)
 }
 
@@ -95,9 +96,9 @@ pub(crate) fn ratify<S: Store>(
 ) -> Result<Ratify, StepFault>
     requires known { IsKnownIn world.old notes.old }
     requires may { MayRatify world.old.tells (known_of world.old notes.old) version id time }
-    ensures { HasDoneAmong (LearnsRatify world.old.tells version id (known_of world.old notes.old) result (known_of world.new notes.new)) world.old notes.old world.new notes.new }
+    ensures { HasDoneAmong (IsMet (RatifyTurn version id time) result others.now number world.old world.new) (LearnsRatify world.old.tells version id (known_of world.old notes.old) result (known_of world.new notes.new)) world.old notes.old world.new notes.new }
 {
-    meddle(world, alloc, others, number);
+    meddle(world, alloc, others, number)?;
     turns::ratify(world, notes, version, id, time)
 }
 
@@ -113,9 +114,9 @@ pub(crate) fn publish<S: Store>(
 ) -> Result<Put, StepFault>
     requires known { IsKnownIn world.old notes.old }
     requires may { MayPublish world.old.tells (known_of world.old notes.old) version bytes.now }
-    ensures { HasDoneAmong (LearnsPublish version (known_of world.old notes.old) result (known_of world.new notes.new)) world.old notes.old world.new notes.new }
+    ensures { HasDoneAmong (IsMet (PublishTurn version bytes.now) result others.now number world.old world.new) (LearnsPublish version (known_of world.old notes.old) result (known_of world.new notes.new)) world.old notes.old world.new notes.new }
 {
-    meddle(world, alloc, others, number);
+    meddle(world, alloc, others, number)?;
     turns::publish(world, notes, alloc, version, bytes)
 }
 
@@ -130,9 +131,9 @@ pub(crate) fn report<S: Store>(
 ) -> Result<u64, StepFault>
     requires known { IsKnownIn world.old notes.old }
     requires may { MayReport (known_of world.old notes.old) count }
-    ensures { HasDoneAmong (LearnsReport count (known_of world.old notes.old) result (known_of world.new notes.new)) world.old notes.old world.new notes.new }
+    ensures { HasDoneAmong (IsMet (ReportTurn count) result others.now number world.old world.new) (LearnsReport count (known_of world.old notes.old) result (known_of world.new notes.new)) world.old notes.old world.new notes.new }
 {
-    meddle(world, alloc, others, number);
+    meddle(world, alloc, others, number)?;
     turns::report(world, notes, count)
 }
 
@@ -148,8 +149,8 @@ pub(crate) fn clear<S: Store>(
 ) -> Result<Gone, StepFault>
     requires known { IsKnownIn world.old notes.old }
     requires may { MayClear (known_of world.old notes.old) version }
-    ensures { HasDoneAmong (LearnsClear version id (known_of world.old notes.old) result (known_of world.new notes.new)) world.old notes.old world.new notes.new }
+    ensures { HasDoneAmong (IsMet (ClearTurn version id) result others.now number world.old world.new) (LearnsClear version id (known_of world.old notes.old) result (known_of world.new notes.new)) world.old notes.old world.new notes.new }
 {
-    meddle(world, alloc, others, number);
+    meddle(world, alloc, others, number)?;
     turns::clear(world, notes, alloc, version, id)
 }

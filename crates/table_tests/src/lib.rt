@@ -1,7 +1,10 @@
-//! Tests of a table over a store in memory: the world, its one caller, and loads and publications over that caller.
+//! Tests of a table over a store in memory: the world, its one caller, one caller among others, and loads and
+//! publications over these callers.
 //! There is no code here.
 #![tactic(auto)]
 
+#[cfg(test)]
+mod among_others;
 #[cfg(test)]
 mod callers;
 #[cfg(test)]

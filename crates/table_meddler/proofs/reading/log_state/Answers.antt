@@ -1,6 +1,6 @@
 use Rattle.std.proofs.Common.{◌∙◌, arith}
 use Rattle.table_model.proofs.Knowing.{length-log_of}
-use Rattle.table_meddler.proofs.ReadWorlds.{read_trans, replay_step, replayed_all}
+use Rattle.table_meddler.proofs.ReadWorlds.{handed, read_trans, replay_step, replayed_all, shown_later}
 use Rattle.table_meddler.proofs.reading.log_state.Goals as goal
 
 pub loop-version-preserved : goal.loop-version-preserved
@@ -15,3 +15,7 @@ loop-version-preserved g c =
 pub returns-clause-state : goal.returns-clause-state
 returns-clause-state g c = λ t.
     replayed_all _ _ c.loop-version.version (let e = length-log_of c.args.world.now in omega (arith, e, c.loop-version-test.false, c.count-version-end.ensures.value)) (c.loop-version.invariant.state t)
+
+pub returns-in_err-actions-clause-fault : goal.returns-in_err-actions-clause-fault
+returns-in_err-actions-clause-fault g c =
+    handed c.from_residual.result c.in_err-actions.field-0.0 _ c.from_residual.ensures.1 (shown_later _ _ _ c.in_err-actions.field-0.0 c.loop-version.invariant.read.tally c.in_err-actions.ensures.fault)
