@@ -1,5 +1,5 @@
 -- Why a publishing or a clearing was refused.
-use Rattle.std.specs.Prelude.{◌≡◌, ◌<◌, ◌⊎◌, ℕ, [], Bool, IsTrue, Contains, length, Result, Ok, Err}
+use Rattle.std.specs.Prelude.{◌≡◌, ◌<◌, ◌+◌, ◌⊎◌, ℕ, [], Bool, IsTrue, Contains, length, Result, Ok, Err}
 use Rattle.log_names.specs.declared.LogName.TheVariants as name
 use Rattle.table_model.specs.declared.answers.Spot.{Spot}
 use Rattle.table_model.specs.declared.answers.Spot.TheVariants as spot
@@ -53,3 +53,22 @@ UnlessMemory (Ok answer) P = P
 UnlessMemory (Err publish.NoTable) P = P
 UnlessMemory (Err (publish.Fault at)) P = P
 UnlessMemory (Err publish.Memory) P = Unit {0}
+
+-- a fault is answered: the caller's count of faults rose by one; it stayed only where the store does not tell what it holds
+abbrev pub CountsFault : Bool → Knowledge → Knowledge → Type 0
+CountsFault tells k m = (m.faults ≡ k.faults + 1) ⊎ ((¬ (IsTrue tells)) × (m.faults ≡ k.faults))
+
+-- after every other answer it is as before
+abbrev pub CountsError : Bool → Knowledge → PublishError → Knowledge → Type 0
+CountsError tells k publish.NoTable m = m.faults ≡ k.faults
+CountsError tells k (publish.Fault at) m = CountsFault tells k m
+CountsError tells k publish.Memory m = m.faults ≡ k.faults
+
+abbrev pub CountsFaults : {A : Type 0} → Bool → Knowledge → Result A PublishError → Knowledge → Type 0
+CountsFaults tells k (Ok answer) m = m.faults ≡ k.faults
+CountsFaults tells k (Err e) m = CountsError tells k e m
+
+abbrev pub CountsDrain : {A : Type 0} → Bool → Knowledge → Result A DrainError → Knowledge → Type 0
+CountsDrain tells k (Ok answer) m = m.faults ≡ k.faults
+CountsDrain tells k (Err (drain.Fault at)) m = CountsFault tells k m
+CountsDrain tells k (Err drain.Memory) m = m.faults ≡ k.faults

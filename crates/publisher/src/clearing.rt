@@ -2,7 +2,7 @@ ghost use Rattle.std.specs.Prelude.{◌≡◌, ◌<◌, ◌≤◌, ◌+◌, ℕ,
 ghost use Rattle.log_names.specs.declared.LogName.TheVariants as name;
 ghost use Rattle.table_model.specs.Knowledge.{IsGrown, IsValid};
 ghost use Rattle.table_model.specs.Turns.{TellsTurn};
-ghost use Rattle.publisher.specs.Causes.{TurnCause, PublishCause, UnlessMemory};
+ghost use Rattle.publisher.specs.Causes.{TurnCause, PublishCause, CountsFaults, UnlessMemory};
 ghost use Rattle.publisher.specs.Publishing.{HasCleared, HasAsked, ClearsFile, ClearsNames, IsClearableAs, OnlyClears, OnlyListsAndClears};
 ghost use Rattle.publisher.specs.Worlds.{ClearTurns, Clears, IsGone, AreCleared};
 
@@ -37,6 +37,7 @@ fn clear_file<T: Steps>(
     ensures cleared { IfOk result (λ n. ClearsFile version id n (T.known caller.old) (T.known caller.new)) }
     ensures small { IfOk result (λ n. n ≤ 1) }
     ensures cause { IfErr result (λ e. TurnCause T.tells e (T.known caller.old) (T.known caller.new)) }
+    ensures counts { CountsFaults T.tells (T.known caller.old) result (T.known caller.new) }
     ensures turns { OnlyClears (T.known caller.old) (T.known caller.new) }
     ensures grows { IsGrown (T.known caller.old) (T.known caller.new) }
     ensures valid { IsValid (T.known caller.new) }
@@ -63,6 +64,7 @@ fn clear_listed<T: Steps>(
     requires valid { IsValid (T.known caller.old) }
     ensures cleared { IfOk result (λ n. ClearsNames reported names.now n (T.known caller.old) (T.known caller.new)) }
     ensures cause { IfErr result (λ e. TurnCause T.tells e (T.known caller.old) (T.known caller.new)) }
+    ensures counts { CountsFaults T.tells (T.known caller.old) result (T.known caller.new) }
     ensures turns { OnlyClears (T.known caller.old) (T.known caller.new) }
     ensures grows { IsGrown (T.known caller.old) (T.known caller.new) }
     ensures valid { IsValid (T.known caller.new) }
@@ -88,6 +90,7 @@ fn clear_listed<T: Steps>(
 pub fn clear_all<T: Steps>(caller: &mut T, alloc: Global) -> Result<ClearedAll, PublishError>
     ensures cleared { IfOk result (λ a. HasCleared a (T.known caller.old) (T.known caller.new)) }
     ensures cause { IfErr result (λ e. PublishCause T.tells e (T.known caller.old) (T.known caller.new)) }
+    ensures counts { CountsFaults T.tells (T.known caller.old) result (T.known caller.new) }
     ensures asked { UnlessMemory result (HasAsked (T.known caller.old) (T.known caller.new)) }
     ensures turns { OnlyListsAndClears (T.known caller.old) (T.known caller.new) }
     ensures grows { IsGrown (T.known caller.old) (T.known caller.new) }

@@ -2,7 +2,7 @@ ghost use Rattle.std.specs.Prelude.{◌≡◌, [], IfErr, OnOk, IfSome};
 ghost use Rattle.table_model.specs.Knowledge.{IsGrown, IsValid};
 ghost use Rattle.table_model.specs.Turns.{TellsTurn};
 ghost use Rattle.table_model.specs.Consistency.{IsConsistent};
-ghost use Rattle.publisher.specs.Causes.{DrainCause};
+ghost use Rattle.publisher.specs.Causes.{DrainCause, CountsDrain};
 ghost use Rattle.publisher.specs.Publishing.{IsDrained, OnlyAsks, OnlyDrains};
 ghost use Rattle.publisher.specs.Worlds.{IsSettled, KeepsLog};
 
@@ -24,6 +24,7 @@ pub fn drain<T: Steps>(caller: &mut T, alloc: Global) -> Result<(), DrainError>
     ensures log { TellsTurn KeepsLog (T.world caller.old) (T.world caller.new) }
     ensures empty { OnOk result ((T.known caller.new).seen ≡ [] → OnlyAsks (T.known caller.old) (T.known caller.new)) }
     ensures cause { IfErr result (λ e. DrainCause T.tells e (T.known caller.old) (T.known caller.new)) }
+    ensures counts { CountsDrain T.tells (T.known caller.old) result (T.known caller.new) }
     ensures turns { OnlyDrains (T.known caller.old) (T.known caller.new) }
     ensures grows { IsGrown (T.known caller.old) (T.known caller.new) }
     ensures valid { IsValid (T.known caller.new) }

@@ -4,7 +4,7 @@ ghost use Rattle.table_model.specs.Log.{commit_at};
 ghost use Rattle.table_model.specs.Knowledge.{IsGrown, IsValid};
 ghost use Rattle.table_model.specs.Learning.{no_ratified};
 ghost use Rattle.table_model.specs.Turns.{TellsTurn};
-ghost use Rattle.publisher.specs.Causes.{TurnCause, PublishCause, UnlessMemory};
+ghost use Rattle.publisher.specs.Causes.{TurnCause, PublishCause, CountsFaults, UnlessMemory};
 ghost use Rattle.publisher.specs.Publishing.{HasPublished, HasAsked, OnlyCopies, OnlyPublishes, IsCatalogue};
 ghost use Rattle.publisher.specs.Worlds.{PublishTurns, SameButTally, PublishesUpTo, AsCommitsTell, PublishesVersion, IsThere};
 
@@ -18,6 +18,7 @@ fn find_published<T: Steps>(caller: &mut T, alloc: Global, version: u64) -> Resu
     requires published { IsTrue T.tells → version < (T.known caller.old).published }
     ensures published { OnOk result (version < (T.known caller.new).published) }
     ensures cause { IfErr result (λ e. TurnCause T.tells e (T.known caller.old) (T.known caller.new)) }
+    ensures counts { CountsFaults T.tells (T.known caller.old) result (T.known caller.new) }
     ensures turns { OnlyCopies 1 (T.known caller.old) (T.known caller.new) }
     ensures grows { IsGrown (T.known caller.old) (T.known caller.new) }
     ensures valid { IsValid (T.known caller.new) }
@@ -48,6 +49,7 @@ fn publish_version<T: Steps>(
     requires under { id ≡ (commit_at (T.known caller.old).seen version).id }
     ensures published { OnOk result (version < (T.known caller.new).published) }
     ensures cause { IfErr result (λ e. TurnCause T.tells e (T.known caller.old) (T.known caller.new)) }
+    ensures counts { CountsFaults T.tells (T.known caller.old) result (T.known caller.new) }
     ensures turns { OnlyCopies 2 (T.known caller.old) (T.known caller.new) }
     ensures grows { IsGrown (T.known caller.old) (T.known caller.new) }
     ensures valid { IsValid (T.known caller.new) }
@@ -87,6 +89,7 @@ fn publish_from<T: Steps>(
     requires valid { IsValid (T.known caller.old) }
     ensures published { OnOk result (commits.now.count ≤ (T.known caller.new).published) }
     ensures cause { IfErr result (λ e. TurnCause T.tells e (T.known caller.old) (T.known caller.new)) }
+    ensures counts { CountsFaults T.tells (T.known caller.old) result (T.known caller.new) }
     ensures turns { OnlyCopies (2 * length (T.known caller.new).seen) (T.known caller.old) (T.known caller.new) }
     ensures grows { IsGrown (T.known caller.old) (T.known caller.new) }
     ensures valid { IsValid (T.known caller.new) }
@@ -109,6 +112,7 @@ fn publish_from<T: Steps>(
 pub fn publish_all<T: Steps>(caller: &mut T, alloc: Global) -> Result<Published, PublishError>
     ensures published { IfOk result (λ p. HasPublished p (T.known caller.new)) }
     ensures cause { IfErr result (λ e. PublishCause T.tells e (T.known caller.old) (T.known caller.new)) }
+    ensures counts { CountsFaults T.tells (T.known caller.old) result (T.known caller.new) }
     ensures asked { UnlessMemory result (HasAsked (T.known caller.old) (T.known caller.new)) }
     ensures turns { OnlyPublishes (T.known caller.old) (T.known caller.new) }
     ensures grows { IsGrown (T.known caller.old) (T.known caller.new) }

@@ -1,4 +1,5 @@
 pub mod Causing
+pub mod Faults
 pub mod Keeping
 pub mod Listing
 pub mod Loaded

@@ -1,5 +1,5 @@
 -- Why a load or the reading of a version was refused.
-use Rattle.std.specs.Prelude.{◌≡◌, ◌<◌, ◌⊎◌, ℕ, List, [], Bool, IsTrue, Contains, length, Result, Ok, Err}
+use Rattle.std.specs.Prelude.{◌≡◌, ◌<◌, ◌+◌, ◌⊎◌, ℕ, List, [], Bool, IsTrue, Contains, length, Result, Ok, Err}
 use Rattle.log_names.specs.declared.LogName.TheVariants as name
 use Rattle.table_model.specs.declared.answers.Spot.{Spot}
 use Rattle.table_model.specs.declared.answers.Spot.TheVariants as spot
@@ -53,3 +53,19 @@ UnlessMemory (Err (AfterLatest version latest)) P = P
 UnlessMemory (Err (BeforeFirst first latest)) P = P
 UnlessMemory (Err (Fault at)) P = P
 UnlessMemory (Err Memory) P = Unit {0}
+
+-- a fault is answered: the caller's count of faults rose by one; it stayed only where the store does not tell what it holds
+abbrev pub CountsFault : Bool → Knowledge → Knowledge → Type 0
+CountsFault tells k m = (m.faults ≡ k.faults + 1) ⊎ ((¬ (IsTrue tells)) × (m.faults ≡ k.faults))
+
+-- after every other answer it is as before
+abbrev pub CountsError : Bool → Knowledge → LoadError → Knowledge → Type 0
+CountsError tells k NoTable m = m.faults ≡ k.faults
+CountsError tells k (AfterLatest version latest) m = m.faults ≡ k.faults
+CountsError tells k (BeforeFirst first latest) m = m.faults ≡ k.faults
+CountsError tells k (Fault at) m = CountsFault tells k m
+CountsError tells k Memory m = m.faults ≡ k.faults
+
+abbrev pub CountsFaults : {A : Type 0} → Bool → Knowledge → Result A LoadError → Knowledge → Type 0
+CountsFaults tells k (Ok answer) m = m.faults ≡ k.faults
+CountsFaults tells k (Err e) m = CountsError tells k e m

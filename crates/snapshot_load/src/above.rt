@@ -1,7 +1,7 @@
 ghost use Rattle.std.specs.Prelude.{◌≡◌, ◌<◌, ◌≤◌, ◌+◌, ◌-◌, ◌*◌, ℕ, List, Bool, IsTrue, IfOk, IfErr, length, vec_len, map, drop};
 ghost use Rattle.table_model.specs.Log.{history, IsSound};
 ghost use Rattle.table_model.specs.Knowledge.{IsGrown, IsValid};
-ghost use Rattle.snapshot_load.specs.Causes.{ReadCause, UnlessMemory};
+ghost use Rattle.snapshot_load.specs.Causes.{ReadCause, CountsFaults, UnlessMemory};
 ghost use Rattle.snapshot_load.specs.Reading.{OnlyReads, OnlyLoads, HasAsked, IsCatalogue};
 ghost use Rattle.snapshot_load.specs.Snapshots.{AreWinners};
 
@@ -26,6 +26,7 @@ fn actions_above<T: Steps>(
     ensures count { IfOk result (λ v. vec_len v + (after + 1) ≡ commits.now.count) }
     ensures actions { IfOk result (λ v. IsTrue T.tells → map (λ a. a.items) v.items ≡ history (drop (after + 1) (T.known caller.new).seen)) }
     ensures cause { IfErr result (λ e. ReadCause T.tells e (T.known caller.old) (T.known caller.new)) }
+    ensures counts { CountsFaults T.tells (T.known caller.old) result (T.known caller.new) }
     ensures reads { OnlyReads (2 * (commits.now.count - (after + 1))) (T.known caller.old) (T.known caller.new) }
     ensures grows { IsGrown (T.known caller.old) (T.known caller.new) }
     ensures valid { IsValid (T.known caller.new) }
@@ -47,6 +48,7 @@ pub fn winners<T: Steps>(caller: &mut T, alloc: Global, after: u64) -> Result<Wi
     requires { after < length (T.known caller.old).seen }
     ensures winners { IfOk result (AreWinners T.tells (T.known caller.new).seen after) }
     ensures cause { IfErr result (λ e. ReadCause T.tells e (T.known caller.old) (T.known caller.new)) }
+    ensures counts { CountsFaults T.tells (T.known caller.old) result (T.known caller.new) }
     ensures asked { UnlessMemory result (HasAsked (T.known caller.old) (T.known caller.new)) }
     ensures turns { OnlyLoads 0 (length (T.known caller.new).seen - (after + 1)) (T.known caller.old) (T.known caller.new) }
     ensures grows { IsGrown (T.known caller.old) (T.known caller.new) }

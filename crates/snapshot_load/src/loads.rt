@@ -2,7 +2,7 @@ ghost use Rattle.std.specs.Prelude.{◌≡◌, ◌<◌, ◌≤◌, ◌+◌, ◌-
 ghost use Rattle.reconcile.specs.Standing.{StandsFor, time_in};
 ghost use Rattle.table_model.specs.Log.{commit_at, commit_time, history, IsSound};
 ghost use Rattle.table_model.specs.Knowledge.{IsGrown, IsValid};
-ghost use Rattle.snapshot_load.specs.Causes.{LoadCause, ReadCause, UnlessMemory};
+ghost use Rattle.snapshot_load.specs.Causes.{LoadCause, ReadCause, CountsFaults, UnlessMemory};
 ghost use Rattle.snapshot_load.specs.Reading.{OnlyReads, OnlyLoads, HasAsked, IsCatalogue};
 ghost use Rattle.snapshot_load.specs.Snapshots.{IsSnapshot};
 
@@ -27,6 +27,7 @@ fn replay<T: Steps>(
     ensures state { IfOk result (λ s. IsTrue T.tells → StandsFor s (history (T.known caller.new).seen)) }
     ensures time { IfOk result (λ s. IsTrue T.tells → 0 < commits.now.count → unwrap_or (time_in s) (pos 0) ≡ commit_time (commit_at (T.known caller.new).seen (commits.now.count - 1)).bytes) }
     ensures cause { IfErr result (λ e. ReadCause T.tells e (T.known caller.old) (T.known caller.new)) }
+    ensures counts { CountsFaults T.tells (T.known caller.old) result (T.known caller.new) }
     ensures reads { OnlyReads (2 * commits.now.count) (T.known caller.old) (T.known caller.new) }
     ensures grows { IsGrown (T.known caller.old) (T.known caller.new) }
     ensures valid { IsValid (T.known caller.new) }
@@ -50,6 +51,7 @@ pub fn load<T: Steps>(caller: &mut T, alloc: Global) -> Result<Snapshot, LoadErr
     ensures loaded { IfOk result (IsSnapshot T.tells (T.known caller.new).seen) }
     ensures newest { IfOk result (λ s. s.version ≡ s.latest) }
     ensures cause { IfErr result (λ e. LoadCause T.tells e (T.known caller.old) (T.known caller.new)) }
+    ensures counts { CountsFaults T.tells (T.known caller.old) result (T.known caller.new) }
     ensures asked { UnlessMemory result (HasAsked (T.known caller.old) (T.known caller.new)) }
     ensures turns { OnlyLoads 1 (length (T.known caller.new).seen) (T.known caller.old) (T.known caller.new) }
     ensures grows { IsGrown (T.known caller.old) (T.known caller.new) }

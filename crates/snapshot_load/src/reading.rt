@@ -3,7 +3,7 @@ ghost use Rattle.log_names.specs.declared.LogName.TheVariants as name;
 ghost use Rattle.table_model.specs.Log.{commit_at, IsSound};
 ghost use Rattle.table_model.specs.Knowledge.{Knowledge, IsGrown, IsValid};
 ghost use Rattle.action_json.specs.Text.{actions_of};
-ghost use Rattle.snapshot_load.specs.Causes.{ReadCause};
+ghost use Rattle.snapshot_load.specs.Causes.{ReadCause, CountsFaults};
 ghost use Rattle.snapshot_load.specs.Reading.{OnlyReads, IsCatalogue, IsPlaceOf, IsFileOf};
 
 use crate::errors::LoadError;
@@ -74,6 +74,7 @@ fn published_file<T: Steps>(
     requires published { IsTrue T.tells → version < (T.known caller.old).published }
     ensures file { IfOk result (IsFileOf T.tells (T.known caller.new) version) }
     ensures cause { IfErr result (λ e. ReadCause T.tells e (T.known caller.old) (T.known caller.new)) }
+    ensures counts { CountsFaults T.tells (T.known caller.old) result (T.known caller.new) }
     ensures reads { OnlyReads 1 (T.known caller.old) (T.known caller.new) }
     ensures grows { IsGrown (T.known caller.old) (T.known caller.new) }
     ensures valid { IsValid (T.known caller.new) }
@@ -100,6 +101,7 @@ fn staged_file<T: Steps>(
     requires under { id ≡ (commit_at (T.known caller.old).seen version).id }
     ensures file { IfOk result (IsFileOf T.tells (T.known caller.new) version) }
     ensures cause { IfErr result (λ e. ReadCause T.tells e (T.known caller.old) (T.known caller.new)) }
+    ensures counts { CountsFaults T.tells (T.known caller.old) result (T.known caller.new) }
     ensures reads { OnlyReads 2 (T.known caller.old) (T.known caller.new) }
     ensures grows { IsGrown (T.known caller.old) (T.known caller.new) }
     ensures valid { IsValid (T.known caller.new) }
@@ -124,6 +126,7 @@ fn commit_file<T: Steps>(
     requires place { IsPlaceOf T.tells (T.known caller.old) version place }
     ensures file { IfOk result (IsFileOf T.tells (T.known caller.new) version) }
     ensures cause { IfErr result (λ e. ReadCause T.tells e (T.known caller.old) (T.known caller.new)) }
+    ensures counts { CountsFaults T.tells (T.known caller.old) result (T.known caller.new) }
     ensures reads { OnlyReads 2 (T.known caller.old) (T.known caller.new) }
     ensures grows { IsGrown (T.known caller.old) (T.known caller.new) }
     ensures valid { IsValid (T.known caller.new) }
@@ -149,6 +152,7 @@ pub(crate) fn version_actions<T: Steps>(
     requires place { IsPlaceOf T.tells (T.known caller.old) version place }
     ensures actions { IfOk result (λ v. IsTrue T.tells → v.items ≡ actions_of (commit_at (T.known caller.new).seen version).bytes) }
     ensures cause { IfErr result (λ e. ReadCause T.tells e (T.known caller.old) (T.known caller.new)) }
+    ensures counts { CountsFaults T.tells (T.known caller.old) result (T.known caller.new) }
     ensures reads { OnlyReads 2 (T.known caller.old) (T.known caller.new) }
     ensures grows { IsGrown (T.known caller.old) (T.known caller.new) }
     ensures valid { IsValid (T.known caller.new) }

@@ -1,5 +1,6 @@
 use Rattle.std.specs.Prelude.{Ok, Err}
 use Rattle.publisher.proofs.Causing.{turn_refused}
+use Rattle.publisher.proofs.Faults.{turn_counts}
 use Rattle.publisher.proofs.Removing.{clear_tells, gone_tells}
 use Rattle.publisher.proofs.clearing.clear_file.Goals as goal
 
@@ -20,3 +21,6 @@ returns-in-Err-clause-cause g c = rw c.from.ensures (turn_refused _ _ _ _ _ c.in
 pub returns-in-Err-clause-world : goal.returns-in-Err-clause-world
 returns-in-Err-clause-world g c =
     clear_tells c.args.version c.args.id (Err c.in-Err.fault) _ _ c.ranges.version.fits c.ranges.id.fits c.in-Err.ensures.turn
+
+pub returns-in-Err-clause-counts : goal.returns-in-Err-clause-counts
+returns-in-Err-clause-counts g c = rw c.from.ensures (turn_counts _ _ _ _ _ c.in-Err.ensures.learns)

@@ -1,7 +1,8 @@
-use Rattle.std.proofs.Common.{rules, refl, arith}
+use Rattle.std.proofs.Common.{rules, refl, arith, ◌∙◌}
 use Rattle.table_model.proofs.Growing.{grows_refl, grows_trans}
-use Rattle.publisher.specs.Causes.{TurnCause}
+use Rattle.publisher.specs.Causes.{TurnCause, CountsError}
 use Rattle.publisher.proofs.Causing.{cause_later}
+use Rattle.publisher.proofs.Faults.{error_counts}
 use Rattle.publisher.proofs.Counting.{names_none, names_more, names_skip, names_all, not_clearable, only_trans}
 use Rattle.publisher.proofs.Removing.{clears_start, clears_more, cleared_skip, cleared_more, cleared_none}
 use Rattle.publisher.proofs.clearing.clear_listed.Goals as goal
@@ -13,6 +14,7 @@ loop-listed-init g c = record {
   grows = grows_refl _;
   valid = c.requires.valid;
   after = g.met.T.Steps.after_same _;
+  faults = refl;
   cleared = names_none _ _;
   world = clears_start _ _;
   gone = cleared_none _ c.args.names.now _;
@@ -25,6 +27,7 @@ loop-listed-preserved-in_default g c = record {
   grows = c.loop-listed.invariant.grows;
   valid = c.loop-listed.invariant.valid;
   after = c.loop-listed.invariant.after;
+  faults = c.loop-listed.invariant.faults;
   cleared = names_skip _ _ _ _ _ _ _ c.loop-listed-test.true c.in_default.ensures c.loop-listed.invariant.cleared;
   world = c.loop-listed.invariant.world;
   gone = cleared_skip _ _ _ _ _ c.loop-listed-test.true (λ version id below is. not_clearable _ version id _ c.in_default.ensures below is) c.loop-listed.invariant.gone;
@@ -47,6 +50,7 @@ loop-listed-preserved g c = record {
   grows = grows_trans _ _ _ c.loop-listed.invariant.grows c.in_ok-cleared.ensures.grows;
   valid = c.in_ok-cleared.ensures.valid;
   after = g.met.T.Steps.after_both _ _ _ c.loop-listed.invariant.after c.in_ok-cleared.ensures.after;
+  faults = c.in_ok-cleared.ensures.counts ∙ c.loop-listed.invariant.faults;
   cleared = names_more _ _ _ _ _ _ _ _ _ _ _ c.loop-listed-test.true c.in-Some.ensures.0 c.in-Some.ensures.1 c.loop-listed.invariant.cleared c.in_ok-cleared.ensures.cleared;
   world = clears_more c.in-Some.version c.args.reported _ _ _ c.in-Some.ensures.1 c.loop-listed.invariant.world c.in_ok-cleared.ensures.world;
   gone =
@@ -56,3 +60,9 @@ loop-listed-preserved g c = record {
 
 pub returns-clause-cleared : goal.returns-clause-cleared
 returns-clause-cleared g c = names_all _ _ _ _ _ _ c.loop-listed-test.false c.loop-listed.invariant.cleared
+
+pub returns-in_err-cleared-clause-counts : goal.returns-in_err-cleared-clause-counts
+returns-in_err-cleared-clause-counts g c =
+    let i : CountsError g.T.Steps.tells (g.T.Steps.known c.args.caller.now) c.in_err-cleared.field-0.0 (g.T.Steps.known c.clear_file.new.caller) =
+    error_counts _ _ (g.T.Steps.known c.args.caller.now) (g.T.Steps.known c.loop-listed.caller) _ c.loop-listed.invariant.faults c.in_err-cleared.ensures.counts in
+    search rules

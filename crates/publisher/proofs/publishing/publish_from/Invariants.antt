@@ -1,4 +1,4 @@
-use Rattle.std.proofs.Common.{◌≤◌, ◌*◌}
+use Rattle.std.proofs.Common.{◌≡◌, ◌≤◌, ◌*◌}
 use Rattle.table_model.specs.Knowledge.{IsGrown, IsValid}
 use Rattle.table_model.specs.Turns.{TellsTurn}
 use Rattle.publisher.specs.Publishing.{OnlyCopies}
@@ -11,6 +11,7 @@ invariant-loop-version g l = record {
   grows : IsGrown (g.T.Steps.known l.fn.caller) (g.T.Steps.known l.caller);
   valid : IsValid (g.T.Steps.known l.caller);
   after : g.T.Steps.after l.fn.caller l.caller;
+  faults : (g.T.Steps.known l.caller).faults ≡ (g.T.Steps.known l.fn.caller).faults;
   published : l.version ≤ (g.T.Steps.known l.caller).published;
   world : TellsTurn (PublishesUpTo l.version) (g.T.Steps.world l.fn.caller) (g.T.Steps.world l.caller);
 }

@@ -1,6 +1,8 @@
+use Rattle.std.proofs.Common.{◌≡◌}
 use Rattle.std.specs.Prelude.{Ok, Err}
 use Rattle.log_names.specs.declared.LogName.TheVariants as name
 use Rattle.publisher.proofs.Causing.{turn_refused, cause_later, answer_later}
+use Rattle.publisher.proofs.Faults.{turn_counts, error_counts, answer_counts, get_counts}
 use Rattle.publisher.proofs.Telling.{copied_tells, found_tells, got_tells, put_there_tells}
 use Rattle.publisher.proofs.publishing.publish_version.Goals as goal
 
@@ -32,3 +34,16 @@ returns-clause-cause g c = rw c.from-in-Err.ensures (turn_refused _ _ _ _ _ c.in
 
 pub returns-clause-world : goal.returns-clause-world
 returns-clause-world g c = got_tells _ _ (name.Staged c.args.version c.args.id) (Err c.in-Err.fault) _ _ c.in-Err.ensures.turn
+
+pub returns-in-Ok-Whole-clause-counts : goal.returns-in-Ok-Whole-clause-counts
+returns-in-Ok-Whole-clause-counts g c =
+    let read : (g.T.Steps.known c.get.new.self).faults ≡ (g.T.Steps.known c.args.caller.now).faults = get_counts _ _ _ _ _ c.in-Ok-Whole.ensures.learns in
+    rw c.from.ensures (error_counts _ _ (g.T.Steps.known c.args.caller.now) (g.T.Steps.known c.get.new.self) _ read (turn_counts _ _ _ _ _ c.in-Err-publish.ensures.learns))
+
+pub returns-in-Ok-Absent-clause-counts : goal.returns-in-Ok-Absent-clause-counts
+returns-in-Ok-Absent-clause-counts g c =
+    let read : (g.T.Steps.known c.get.new.self).faults ≡ (g.T.Steps.known c.args.caller.now).faults = get_counts _ _ _ _ _ c.in-Ok-Absent.ensures.learns in
+    answer_counts _ _ (g.T.Steps.known c.args.caller.now) (g.T.Steps.known c.get.new.self) _ read c.find_published.ensures.counts
+
+pub returns-clause-counts : goal.returns-clause-counts
+returns-clause-counts g c = rw c.from-in-Err.ensures (turn_counts _ _ _ _ _ c.in-Err.ensures.learns)

@@ -1,7 +1,8 @@
-use Rattle.std.proofs.Common.{rules, ◌+◌, ◌*◌, vec_len, arith, ◌∙◌}
+use Rattle.std.proofs.Common.{refl, rules, ◌+◌, ◌*◌, vec_len, arith, ◌∙◌}
 use Rattle.table_model.proofs.Growing.{grows_refl, grows_trans}
-use Rattle.snapshot_load.specs.Causes.{ReadCause}
+use Rattle.snapshot_load.specs.Causes.{ReadCause, CountsError}
 use Rattle.snapshot_load.proofs.Causing.{cause_later}
+use Rattle.snapshot_load.proofs.Faults.{error_counts}
 use Rattle.snapshot_load.proofs.Keeping.{reads_up}
 use Rattle.snapshot_load.proofs.Replaying.{reads_none, reads_more, reads_version, catalogue_kept, winners_step, winners_all, sound_kept}
 use Rattle.snapshot_load.proofs.above.actions_above.Goals as goal
@@ -26,6 +27,7 @@ loop-version-preserved g c =
       grows = grows_trans _ _ _ c.loop-version.invariant.grows c.in_ok-actions.ensures.grows;
       valid = c.in_ok-actions.ensures.valid;
       after = g.met.T.Steps.after_both _ _ _ c.loop-version.invariant.after c.in_ok-actions.ensures.after;
+      faults = c.in_ok-actions.ensures.counts ∙ c.loop-version.invariant.faults;
       count = omega (arith, c.loop-version.invariant.count, c.in_ok-push.ensures.len);
       actions =
           λ t. rw (c.in_ok-push.ensures.items, c.in_ok-push.ensures.len)
@@ -57,6 +59,16 @@ loop-version-init g c = record {
   grows = grows_refl _;
   valid = c.requires.valid;
   after = g.met.T.Steps.after_same _;
+  faults = refl;
   count = search rules;
   actions = search rules;
 }
+
+pub returns-in_err-actions-clause-counts : goal.returns-in_err-actions-clause-counts
+returns-in_err-actions-clause-counts g c =
+    let i : CountsError g.T.Steps.tells (g.T.Steps.known c.args.caller.now) c.in_err-actions.field-0.0 (g.T.Steps.known c.version_actions.new.caller) =
+    error_counts _ _ (g.T.Steps.known c.args.caller.now) (g.T.Steps.known c.loop-version.caller) _ c.loop-version.invariant.faults c.in_err-actions.ensures.counts in
+    search rules
+
+pub returns-in_err-push-clause-grows : goal.returns-in_err-push-clause-grows
+returns-in_err-push-clause-grows g c = grows_trans _ _ _ c.loop-version.invariant.grows c.in_ok-actions.ensures.grows

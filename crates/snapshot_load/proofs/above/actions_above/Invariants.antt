@@ -11,6 +11,7 @@ invariant-loop-version g l = record {
   grows : IsGrown (g.T.Steps.known l.fn.caller) (g.T.Steps.known l.caller);
   valid : IsValid (g.T.Steps.known l.caller);
   after : g.T.Steps.after l.fn.caller l.caller;
+  faults : (g.T.Steps.known l.caller).faults ≡ (g.T.Steps.known l.fn.caller).faults;
   count : l.after + 1 + vec_len l.winners ≡ l.version;
   actions : IsTrue g.T.Steps.tells → map (λ a. a.items) l.winners.items ≡ history (take (vec_len l.winners) (drop (l.after + 1) (g.T.Steps.known l.caller).seen));
 }

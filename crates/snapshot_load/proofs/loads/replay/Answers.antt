@@ -1,9 +1,10 @@
-use Rattle.std.proofs.Common.{rules, ◌≡◌, ◌+◌, ◌*◌, ℕ, take, arith, ◌∙◌, subst}
+use Rattle.std.proofs.Common.{refl, rules, ◌≡◌, ◌+◌, ◌*◌, ℕ, take, arith, ◌∙◌, subst}
 use Rattle.reconcile.specs.Standing.{StandsFor}
 use Rattle.table_model.specs.Log.{history}
 use Rattle.table_model.proofs.Growing.{grows_refl, grows_trans}
-use Rattle.snapshot_load.specs.Causes.{ReadCause}
+use Rattle.snapshot_load.specs.Causes.{ReadCause, CountsError}
 use Rattle.snapshot_load.proofs.Causing.{cause_later}
+use Rattle.snapshot_load.proofs.Faults.{error_counts}
 use Rattle.snapshot_load.proofs.Keeping.{reads_up}
 use Rattle.snapshot_load.proofs.Replaying.{reads_none, reads_more, reads_version, catalogue_kept, replayed_more, replayed_all, sound_kept, state_time}
 use Rattle.snapshot_load.proofs.loads.replay.Goals as goal
@@ -28,6 +29,7 @@ loop-version-preserved g c =
       grows = grows_trans _ _ _ c.loop-version.invariant.grows c.in_ok-actions.ensures.grows;
       valid = c.in_ok-actions.ensures.valid;
       after = g.met.T.Steps.after_both _ _ _ c.loop-version.invariant.after c.in_ok-actions.ensures.after;
+      faults = c.in_ok-actions.ensures.counts ∙ c.loop-version.invariant.faults;
       state =
           λ t. replayed_more _ _ _ _ _ c.in_ok-actions.ensures.reads (omega (arith, c.loop-version-test.true, now.count))
           (c.as_slice.ensures.value ∙ c.in_ok-actions.ensures.actions t) (c.in_ok-state.ensures.stands _ (c.loop-version.invariant.state t));
@@ -54,6 +56,7 @@ loop-version-init g c = record {
   grows = grows_refl _;
   valid = c.requires.valid;
   after = g.met.T.Steps.after_same _;
+  faults = refl;
   state = search rules;
 }
 
@@ -66,3 +69,9 @@ pub returns-in_err-state-clause-reads : goal.returns-in_err-state-clause-reads
 returns-in_err-state-clause-reads g c =
     reads_up (2 * c.loop-version.version + 2) _ _ _ (omega (arith, c.loop-version-test.true, c.loop-version.auto.version-end))
     (reads_more _ 2 _ _ _ c.loop-version.invariant.reads c.in_ok-actions.ensures.reads)
+
+pub returns-in_err-actions-clause-counts : goal.returns-in_err-actions-clause-counts
+returns-in_err-actions-clause-counts g c =
+    let i : CountsError g.T.Steps.tells (g.T.Steps.known c.args.caller.now) c.in_err-actions.field-0.0 (g.T.Steps.known c.version_actions.new.caller) =
+    error_counts _ _ (g.T.Steps.known c.args.caller.now) (g.T.Steps.known c.loop-version.caller) _ c.loop-version.invariant.faults c.in_err-actions.ensures.counts in
+    search rules

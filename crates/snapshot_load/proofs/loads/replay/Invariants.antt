@@ -1,4 +1,4 @@
-use Rattle.std.proofs.Common.{◌*◌, take, IsTrue}
+use Rattle.std.proofs.Common.{◌≡◌, ◌*◌, take, IsTrue}
 use Rattle.reconcile.specs.Standing.{StandsFor}
 use Rattle.table_model.specs.Log.{history}
 use Rattle.table_model.specs.Knowledge.{IsGrown, IsValid}
@@ -11,5 +11,6 @@ invariant-loop-version g l = record {
   grows : IsGrown (g.T.Steps.known l.fn.caller) (g.T.Steps.known l.caller);
   valid : IsValid (g.T.Steps.known l.caller);
   after : g.T.Steps.after l.fn.caller l.caller;
+  faults : (g.T.Steps.known l.caller).faults ≡ (g.T.Steps.known l.fn.caller).faults;
   state : IsTrue g.T.Steps.tells → StandsFor l.state (history (take l.version (g.T.Steps.known l.caller).seen));
 }
