@@ -1,4 +1,4 @@
-//! Digests of what actions name, by which two lists of many actions are seen to have no double without a set of names.
+//! Digests of what actions name, by which a list of actions is seen to have no double without a set of names.
 ghost use Rattle.std.specs.Prelude.{◌≡◌, ◌==◌, ◌↔◌, IsTrue};
 ghost use Rattle.std.specs.List.{IsDistinct};
 ghost use Rattle.action_json.specs.Digests.{digest, digest_of, fnv_step};

@@ -1,8 +1,10 @@
 //! The quick reading of a commit: it gives up where a line has a flaw or a digest stands twice.
-ghost use Rattle.std.specs.Prelude.{◌≡◌, ℕ, List, [], ◌∷◌, IfOk, IfSome, Ok, Some};
+ghost use Rattle.std.specs.Prelude.{◌≡◌, ℕ, List, [], ◌∷◌, IfNone, IfOk, IfSome, None, Ok, Some, option_map, if◌then◌else◌};
 ghost use Rattle.std.specs.Bool.{OnTrue};
 ghost use Rattle.text_lines.specs.Lines.{cut};
+ghost use Rattle.action_types.specs.declared.actions.Action.{Action};
 ghost use Rattle.action_json.specs.Commit.{outcome};
+ghost use Rattle.action_json.specs.Digests.{HasDistinctDigests};
 ghost use Rattle.action_json.specs.Quick.{IsDigested, quick_left, said_from};
 
 use crate::digests::{are_distinct, digest_of};
@@ -25,7 +27,10 @@ pub(crate) struct Quick {
 
 /// The actions of a commit's bytes, where no line has a flaw and no two actions have the same digest.
 pub(crate) fn read_quickly(alloc: Global, bytes: &[u8]) -> Result<Option<Vec<Action>>, AllocError>
-    ensures { IfOk result (λ o. IfSome o (λ v. outcome bytes.now ≡ Ok v.items)) }
+    // The actions are the outcome.
+    ensures actions { IfOk result (λ o. IfSome o (λ v. outcome bytes.now ≡ Ok v.items)) }
+    // There are none only where a line has a flaw of its own or two of the actions have the same digest.
+    ensures none { IfOk result (λ o. IfNone o ((all : List Action) → said_from [] (cut bytes.now) ≡ Some all → ¬ (HasDistinctDigests all))) }
 {
     let Some(Quick { actions, digests }) = read_said(alloc, bytes)? else {
         return Ok(None);
@@ -39,7 +44,7 @@ pub(crate) fn read_quickly(alloc: Global, bytes: &[u8]) -> Result<Option<Vec<Act
 
 /// What the lines say, where none has a flaw of its own.
 fn read_said(alloc: Global, bytes: &[u8]) -> Result<Option<Quick>, AllocError>
-    ensures said { IfOk result (λ o. IfSome o (λ q. said_from [] (cut bytes.now) ≡ Some q.actions.items)) }
+    ensures said { IfOk result (λ o. said_from [] (cut bytes.now) ≡ option_map (λ q. q.actions.items) o) }
     ensures digested { IfOk result (λ o. IfSome o IsDigested) }
 {
     let room = bytes.len() / LINE;
@@ -68,7 +73,7 @@ fn take_line<'a>(
     line: &'a [u8],
 ) -> Result<bool, AllocError>
     requires { IsDigested quick.old }
-    ensures said { IfOk result (λ b. OnTrue b ((ls : List (List ℕ)) → quick_left quick.old (line.now ∷ ls) ≡ quick_left quick.new ls)) }
+    ensures said { IfOk result (λ b. (ls : List (List ℕ)) → quick_left quick.old (line.now ∷ ls) ≡ (if b then quick_left quick.new ls else None)) }
     ensures digested { IfOk result (λ b. OnTrue b (IsDigested quick.new)) }
 {
     let first = quick.actions.is_empty();
