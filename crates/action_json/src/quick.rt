@@ -15,9 +15,6 @@ use action_types::Action;
 use json_tree::Scratch;
 use std::alloc::{AllocError, Global};
 
-/// About as many bytes as the shortest line of an add has.
-const LINE: usize = 128;
-
 /// The actions so far, and the digest of what each names.
 #[derive(Drop)]
 pub(crate) struct Quick {
@@ -47,10 +44,9 @@ fn read_said(alloc: Global, bytes: &[u8]) -> Result<Option<Quick>, AllocError>
     ensures said { IfOk result (λ o. said_from [] (cut bytes.now) ≡ option_map (λ q. q.actions.items) o) }
     ensures digested { IfOk result (λ o. IfSome o IsDigested) }
 {
-    let room = bytes.len() / LINE;
     let mut quick = Quick {
-        actions: Vec::with_capacity(alloc, room)?,
-        digests: Vec::with_capacity(alloc, room)?,
+        actions: Vec::new(alloc),
+        digests: Vec::new(alloc),
     };
     let mut scratch = Scratch::new(alloc);
     let mut rest = bytes;
