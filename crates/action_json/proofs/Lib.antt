@@ -5,3 +5,5 @@ pub mod Sound
 pub mod Commits
 pub mod Again
 pub mod Answered
+pub mod Distinct
+pub mod Quickly

@@ -3,3 +3,5 @@ pub mod Commit
 pub mod Text
 pub mod Keys
 pub mod Reading
+pub mod Digests
+pub mod Quick

@@ -1,10 +1,12 @@
 //! Commit texts: reading, testing and writing them.
 #![tactic(auto)]
 
+mod digests;
 mod fault;
 mod keys;
 pub mod laws;
 mod line;
+mod quick;
 mod reading;
 mod valid;
 mod writing;

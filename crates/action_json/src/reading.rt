@@ -11,6 +11,7 @@ ghost use Rattle.action_json.specs.Text.{IsCommitText, IsFirstFlaw};
 use crate::fault::{BadCommit, BadLine, Why};
 use crate::keys::Keys;
 use crate::line::{Line, read_line};
+use crate::quick::read_quickly;
 use action_fields::kind_of;
 use action_types::Action;
 use json_tree::Scratch;
@@ -40,7 +41,17 @@ pub fn read_commit(alloc: Global, bytes: &[u8]) -> Result<Vec<Action>, BadCommit
     // What is read can be written.
     ensures commit { IfOk result (λ v. IsCommit v.items) }
 {
-    read_lines(alloc, bytes)
+    read_actions(alloc, bytes)
+}
+
+/// The quick reading where it succeeds; else the reading that finds the first flaw.
+fn read_actions(alloc: Global, bytes: &[u8]) -> Result<Vec<Action>, BadCommit>
+    ensures { Gives told (λ v. v.items) result (outcome bytes.now) }
+{
+    match read_quickly(alloc, bytes)? {
+        Some(actions) => Ok(actions),
+        None => read_lines(alloc, bytes),
+    }
 }
 
 #[tactic(auto, unfolding(crate::specs::Commit::outcome))]
@@ -63,7 +74,7 @@ fn read_lines(alloc: Global, bytes: &[u8]) -> Result<Vec<Action>, BadCommit>
 }
 
 /// The first line of a text that is not empty, and what follows its LF.
-fn first_line(text: &[u8]) -> (&[u8], &[u8])
+pub(crate) fn first_line(text: &[u8]) -> (&[u8], &[u8])
     requires { 0 < length text.now }
     ensures cut { cut text.now ≡ result.0.now ∷ cut result.1.now }
     ensures shorter { length result.1.now < length text.now }
