@@ -6,3 +6,4 @@ pub mod Judgements
 pub mod Underway
 pub mod Beginnings
 pub mod Catching
+pub mod Faults

@@ -1,7 +1,7 @@
 -- The ids of the names that a write puts or finds taken.
-use Rattle.std.proofs.Common.{◌≡◌, ◌<◌, ◌⊎◌, inl, inr, ℕ, ℤ, Bool, IsTrue, List, [], ◌∷◌, ◌++◌, length, refl, sym, ◌∙◌, ap, subst, arith, append_assoc, append-nil, Result, Ok, Err}
+use Rattle.std.proofs.Common.{◌≡◌, ◌⊎◌, inl, inr, ℕ, ℤ, Bool, IsTrue, List, [], ◌∷◌, ◌++◌, refl, sym, ◌∙◌, ap, subst, arith, append_assoc, append-nil, Result, Ok, Err}
 use Rattle.std.specs.Prelude.{Contains, IsErrAnd}
-use Rattle.std.proofs.lemmas.List.Elements.{Contains-push, Contains-push_cases, Contains-append_left, Contains-append_right, Contains-append_cases}
+use Rattle.std.proofs.lemmas.List.Elements.{Contains-push, Contains-push_cases, Contains-append_left, Contains-append_cases}
 use Rattle.lake_io.specs.GivenIds.{GivesNew}
 use Rattle.log_names.specs.declared.LogName.{LogName}
 use Rattle.log_names.specs.declared.LogName.TheVariants as name
@@ -18,8 +18,6 @@ use Rattle.table_model.specs.Learning.{IsOnlyMemory, LearnsStage, LearnsRatify}
 use Rattle.snapshot_load.specs.declared.errors.LoadError.{LoadError}
 use Rattle.snapshot_load.specs.declared.errors.LoadError.TheVariants as load
 use Rattle.writer_txn.specs.declared.attempts.Outcome.{Outcome}
-use Rattle.writer_txn.specs.declared.attempts.Outcome.TheVariants as outcome
-use Rattle.writer_txn.specs.declared.answers.Written.TheVariants as written
 use Rattle.writer_txn.specs.declared.errors.WriteError.{WriteError}
 use Rattle.writer_txn.specs.declared.errors.WriteError.TheVariants as failed
 use Rattle.writer_txn.specs.Converting.{of_fault, of_load}

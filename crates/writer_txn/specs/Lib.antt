@@ -8,3 +8,4 @@ pub mod Proposing
 pub mod Named
 pub mod Trying
 pub mod Judging
+pub mod Counting

@@ -7,6 +7,7 @@ ghost use Rattle.staged_commit.specs.Composed.{IsAppend};
 ghost use Rattle.table_model.specs.Log.{Commit};
 ghost use Rattle.table_model.specs.Knowledge.{Knowledge, IsGrown, IsValid};
 ghost use Rattle.snapshot_load.specs.Snapshots.{AreWinners};
+ghost use Rattle.writer_txn.specs.Counting.{CountsFaults};
 ghost use Rattle.writer_txn.specs.Judging.{IsReached, JudgedFrom, CaughtNow, LeavesOwn, GoesFrom};
 ghost use Rattle.writer_txn.specs.Named.{NamesApart, taken_names};
 ghost use Rattle.writer_txn.specs.Refusing.{of_compose};
@@ -122,6 +123,7 @@ fn caught_up<T: Steps>(
     requires front { IsFrontOf T.tells what.now front (T.known caller.old).seen }
     ensures stands { (reading : ℤ) (last : ℕ) → AttemptStands T.tells what.now result reading last (T.known caller.new).seen }
     ensures caught { CaughtNow T.tells front.base result (T.known caller.old) (T.known caller.new) }
+    ensures counts { CountsFaults T.tells (T.known caller.old) result (T.known caller.new) }
     ensures own { LeavesOwn (T.known caller.old) (T.known caller.new) }
     ensures grows { IsGrown (T.known caller.old) (T.known caller.new) }
     ensures valid { IsValid (T.known caller.new) }
@@ -169,6 +171,7 @@ pub(crate) fn attempt<T: Steps, C: Clock, U: Ids>(
     ensures stands { AttemptStands T.tells what.now result (C.reading clock.new) (U.last ids.new) (T.known caller.new).seen }
     ensures now { (k : Knowledge) (tried : ℕ) → IsUnderway front.base tried k (T.known caller.old) → AttemptNow T.tells front.base tried result k (T.known caller.new) }
     ensures goes { GoesFrom front.base result (T.known caller.new) }
+    ensures counts { CountsFaults T.tells (T.known caller.old) result (T.known caller.new) }
     ensures steady { IsTrue C.fixed → C.reading clock.new ≡ C.reading clock.old }
     ensures names { IsTrue (U.differ ids.new) → NamesApart (U.differ ids.old) (U.given ids.old) (U.given ids.new) (taken_names result) (T.known caller.old) (T.known caller.new) }
     ensures grows { IsGrown (T.known caller.old) (T.known caller.new) }

@@ -2,6 +2,7 @@ ghost use Rattle.std.specs.Prelude.{◌≡◌, ◌≤ℤ◌, pos, [], IsTrue, If
 ghost use Rattle.staged_commit.specs.Answers.{IsComposed};
 ghost use Rattle.staged_commit.specs.Composed.{IsCreate, composed_create};
 ghost use Rattle.table_model.specs.Knowledge.{IsGrown, IsValid};
+ghost use Rattle.writer_txn.specs.Counting.{CountsFaults};
 ghost use Rattle.writer_txn.specs.Creating.{CreateStands};
 ghost use Rattle.writer_txn.specs.Moments.{WrittenNow};
 ghost use Rattle.writer_txn.specs.Named.{NamesApart, taken_names};
@@ -53,6 +54,7 @@ pub fn create<T: Steps, C: Clock, U: Ids>(
     requires { IsCreate what.now }
     ensures stands { CreateStands T.tells what.now result (C.reading clock.new) (U.last ids.new) (T.known caller.new).seen }
     ensures now { WrittenNow T.tells result (T.known caller.old) (T.known caller.new) }
+    ensures counts { CountsFaults T.tells (T.known caller.old) result (T.known caller.new) }
     ensures steady { IsTrue C.fixed → C.reading clock.new ≡ C.reading clock.old }
     ensures names { IsTrue (U.differ ids.new) → NamesApart (U.differ ids.old) (U.given ids.old) (U.given ids.new) (taken_names result) (T.known caller.old) (T.known caller.new) }
     ensures grows { IsGrown (T.known caller.old) (T.known caller.new) }

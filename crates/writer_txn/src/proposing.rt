@@ -2,6 +2,7 @@ ghost use Rattle.std.specs.Prelude.{◌≡◌, IsTrue, length};
 ghost use Rattle.log_names.specs.declared.LogName.TheVariants as name;
 ghost use Rattle.table_model.specs.Log.{IsNextCommit, commit_time};
 ghost use Rattle.table_model.specs.Knowledge.{IsGrown, IsValid};
+ghost use Rattle.writer_txn.specs.Counting.{CountsTurns};
 ghost use Rattle.writer_txn.specs.Proposing.{HasRoom, PutsOnly, ProposedNow};
 
 use staged_commit::Composed;
@@ -35,6 +36,7 @@ pub(crate) fn propose<T: Steps>(
     requires timed { IsTrue T.tells → commit.now.time ≡ commit_time commit.now.bytes.items }
     requires room { HasRoom version (T.known caller.old).terms }
     ensures proposed { ProposedNow T.tells version id commit.now.bytes.items (T.known caller.old) result (T.known caller.new) }
+    ensures counts { CountsTurns (T.known caller.old) result (T.known caller.new) }
     ensures puts { PutsOnly (name.Staged version id) (T.known caller.old) (T.known caller.new) }
     ensures grows { IsGrown (T.known caller.old) (T.known caller.new) }
     ensures valid { IsValid (T.known caller.new) }

@@ -1,6 +1,7 @@
 ghost use Rattle.std.specs.Prelude.{◌≡◌, ◌≤◌, ◌+◌, ℕ, IsTrue, IfSome, Some, length};
 ghost use Rattle.staged_commit.specs.Composed.{IsAppend};
 ghost use Rattle.table_model.specs.Knowledge.{Knowledge, IsGrown, IsValid};
+ghost use Rattle.writer_txn.specs.Counting.{CountsFaults};
 ghost use Rattle.writer_txn.specs.Moments.{WrittenNow};
 ghost use Rattle.writer_txn.specs.Named.{NamesApart, taken_names};
 ghost use Rattle.writer_txn.specs.Trying.{IsFrontOf, IsUnderway};
@@ -34,6 +35,7 @@ fn attempts<T: Steps, C: Clock, U: Ids>(
     requires newest { front.latest + 1 ≡ length (T.known caller.old).seen }
     ensures stands { WriteStands T.tells what.now result (C.reading clock.new) (U.last ids.new) (T.known caller.new).seen }
     ensures now { (k : Knowledge) → IsUnderway front.base 0 k (T.known caller.old) → WrittenNow T.tells result k (T.known caller.new) }
+    ensures counts { CountsFaults T.tells (T.known caller.old) result (T.known caller.new) }
     ensures steady { IsTrue C.fixed → C.reading clock.new ≡ C.reading clock.old }
     ensures names { IsTrue (U.differ ids.new) → NamesApart (U.differ ids.old) (U.given ids.old) (U.given ids.new) (taken_names result) (T.known caller.old) (T.known caller.new) }
     ensures grows { IsGrown (T.known caller.old) (T.known caller.new) }
@@ -73,6 +75,7 @@ pub fn write<T: Steps, C: Clock, U: Ids>(
     requires roomy { IfSome (T.known caller.old).terms (λ t. t.limits.versions ≤ t.limits.unpublished) }
     ensures stands { WriteStands T.tells what.now result (C.reading clock.new) (U.last ids.new) (T.known caller.new).seen }
     ensures now { WrittenNow T.tells result (T.known caller.old) (T.known caller.new) }
+    ensures counts { CountsFaults T.tells (T.known caller.old) result (T.known caller.new) }
     ensures steady { IsTrue C.fixed → C.reading clock.new ≡ C.reading clock.old }
     ensures names { IsTrue (U.differ ids.new) → NamesApart (U.differ ids.old) (U.given ids.old) (U.given ids.new) (taken_names result) (T.known caller.old) (T.known caller.new) }
     ensures grows { IsGrown (T.known caller.old) (T.known caller.new) }

@@ -6,11 +6,14 @@ use Rattle.reconcile.specs.Standing.{StandsFor}
 use Rattle.staged_commit.specs.Answers.{IsAppended, IsAppendRefused}
 use Rattle.table_model.specs.Knowledge.{Knowledge}
 use Rattle.writer_txn.specs.Converting.{of_fault}
+use Rattle.writer_txn.specs.Counting.{CountsError, CountsFaults}
+use Rattle.writer_txn.specs.declared.attempts.Outcome.{Outcome}
 use Rattle.writer_txn.specs.Refusing.{of_compose}
 use Rattle.writer_txn.specs.Moments.{WrittenNow}
 use Rattle.writer_txn.specs.Writing.{WriteStands}
 use Rattle.writer_txn.specs.Judging.{GoesFrom}
 use Rattle.writer_txn.proofs.Underway.{refused_write, refused_write_now, append_next, append_timed, room_for, written_stands, written_now, full_now, name_taken, attempt_stopped, caught_attempt}
+use Rattle.writer_txn.proofs.Faults.{answer_later, of_turn, of_composing}
 use Rattle.writer_txn.proofs.Catching.{goes_on, front_longer, full_stands, name_stands, within_limit}
 use Rattle.std.proofs.Common.{refl}
 use Rattle.log_names.specs.declared.LogName.TheVariants as name
@@ -134,3 +137,19 @@ returns-in-Full-clause-names g c = λ t. apart_put _ _ _ c.next-id.result _ _ _ 
 pub returns-in-Taken-clause-names : goal.returns-in-Taken-clause-names
 returns-in-Taken-clause-names g c = λ t.
     apart_taken _ _ _ c.next-id.result _ _ _ (c.next-id.ensures.new t) (ap (λ (x : Knowledge). x.put) (rw c.in-Taken.is at c.in_ok-propose.ensures.proposed))
+
+pub returns-in-Err-clause-counts : goal.returns-in-Err-clause-counts
+returns-in-Err-clause-counts g c =
+    let i : CountsFaults {A = Outcome} g.T.Steps.tells (g.T.Steps.known c.args.caller.now) (Err (of_compose c.args.front.base c.in-Err.error)) (g.T.Steps.known c.args.caller.now) =
+    of_composing _ c.args.front.base c.in-Err.error (g.T.Steps.known c.args.caller.now) (g.T.Steps.known c.args.caller.now) refl in
+    rw c.refused.ensures i
+
+pub returns-in_err-propose-clause-counts : goal.returns-in_err-propose-clause-counts
+returns-in_err-propose-clause-counts g c =
+    let i : CountsError g.T.Steps.tells (g.T.Steps.known c.args.caller.now) (of_fault c.in_err-propose.field-0.0) (g.T.Steps.known c.propose.new.caller) =
+    of_turn _ c.in_err-propose.field-0.0 (g.T.Steps.known c.args.caller.now) (g.T.Steps.known c.propose.new.caller) c.in_err-propose.ensures.counts in
+    search rules
+
+pub returns-in-Lost-clause-counts : goal.returns-in-Lost-clause-counts
+returns-in-Lost-clause-counts g c =
+    answer_later _ _ (g.T.Steps.known c.args.caller.now) (g.T.Steps.known c.propose.new.caller) _ c.in_ok-propose.ensures.counts c.caught_up.ensures.counts

@@ -1,9 +1,11 @@
 use Rattle.std.proofs.Common.{rules}
 use Rattle.std.specs.Prelude.{Err}
 use Rattle.writer_txn.specs.Converting.{of_load}
+use Rattle.writer_txn.specs.Counting.{CountsError}
 use Rattle.writer_txn.specs.Judging.{CaughtNow}
 use Rattle.writer_txn.specs.Trying.{AttemptStands}
 use Rattle.writer_txn.proofs.Catching.{front_longer, caught_read, reading_leaves, caught_judged}
+use Rattle.writer_txn.proofs.Faults.{of_loading, judged_counts}
 use Rattle.writer_txn.proofs.Beginnings.{load_refused_stands}
 use Rattle.writer_txn.proofs.attempts.caught_up.Goals as goal
 
@@ -31,3 +33,13 @@ returns-clause-caught g c = caught_judged _ _ _ _ _ _ c.in_ok-winners.ensures.wi
 
 pub returns-clause-own : goal.returns-clause-own
 returns-clause-own g c = reading_leaves _ _ _ _ c.in_ok-winners.ensures.turns
+
+pub returns-in_err-winners-clause-counts : goal.returns-in_err-winners-clause-counts
+returns-in_err-winners-clause-counts g c =
+    let i : CountsError g.T.Steps.tells (g.T.Steps.known c.args.caller.now) (of_load c.in_err-winners.field-0.0) (g.T.Steps.known c.winners.new.caller) =
+    of_loading _ c.in_err-winners.field-0.0 (g.T.Steps.known c.args.caller.now) (g.T.Steps.known c.winners.new.caller) c.in_err-winners.ensures.counts in
+    search rules
+
+pub returns-clause-counts : goal.returns-clause-counts
+returns-clause-counts g c =
+    judged_counts _ _ _ _ (g.T.Steps.known c.args.caller.now) (g.T.Steps.known c.winners.new.caller) c.judged.ensures.judged c.in_ok-winners.ensures.counts

@@ -1,16 +1,18 @@
-use Rattle.std.proofs.Common.{rules, ◌∙◌, ap, subst, arith, ℤ}
+use Rattle.std.proofs.Common.{rules, ◌≡◌, ◌∙◌, ap, subst, arith, ℤ}
 use Rattle.std.specs.Int.{w64}
 use Rattle.std.proofs.lemmas.Int.{to_z-of_z}
 use Rattle.std.specs.Prelude.{Err}
 use Rattle.staged_commit.proofs.Appends.{create-time}
 use Rattle.table_model.specs.Log.{history}
 use Rattle.writer_txn.specs.Converting.{of_fault}
+use Rattle.writer_txn.specs.Counting.{CountsError}
 use Rattle.writer_txn.specs.Creating.{CreateStands}
 use Rattle.writer_txn.specs.Refusing.{CreateRefused}
 use Rattle.writer_txn.specs.Moments.{FindsNone, WrittenNow}
 use Rattle.writer_txn.proofs.FirstCommits.{found_none, refused_stands, refused_now, is_next, is_timed, committed_now, taken_now, stopped_now}
 use Rattle.log_names.specs.declared.LogName.TheVariants as name
 use Rattle.table_model.specs.Knowledge.{Knowledge}
+use Rattle.writer_txn.proofs.Faults.{memory_counts, error_later, of_turn, refused_counts}
 use Rattle.writer_txn.proofs.Naming.{puts_none, apart_none, apart_put, apart_taken, apart_since, apart_at, apart_err, refused_puts, names_of_fault, names_of_create}
 use Rattle.writer_txn.proofs.creates.create.Goals as goal
 
@@ -112,3 +114,43 @@ returns-clause-names g c = λ t.
     apart_since _ _ _ _ (g.T.Steps.known c.args.caller.now) (g.T.Steps.known c.commits.new.self) _ (ap (λ (x : Knowledge). x.put) c.in_ok-commits.ensures.learns.same)
     (apart_taken _ _ _ c.next-id.result _ (g.T.Steps.known c.commits.new.self) (g.T.Steps.known c.propose.new.caller) (c.next-id.ensures.new t)
     (ap (λ (x : Knowledge). x.put) (rw c.in-Taken.is at c.in_ok-propose.ensures.proposed)))
+
+pub returns-in_err-commits-clause-counts : goal.returns-in_err-commits-clause-counts
+returns-in_err-commits-clause-counts g c =
+    let i : CountsError g.T.Steps.tells (g.T.Steps.known c.args.caller.now) (of_fault c.in_err-commits.field-0.0) (g.T.Steps.known c.commits.new.self) =
+    of_turn _ c.in_err-commits.field-0.0 (g.T.Steps.known c.args.caller.now) (g.T.Steps.known c.commits.new.self)
+    (memory_counts (g.T.Steps.known c.args.caller.now) c.in_err-commits.field-0.0 (g.T.Steps.known c.commits.new.self) c.in_err-commits.ensures.learns) in
+    search rules
+
+pub returns-then-commits-gt0-clause-counts : goal.returns-then-commits-gt0-clause-counts
+returns-then-commits-gt0-clause-counts g c = ap (λ (x : Knowledge). x.faults) c.in_ok-commits.ensures.learns.same
+
+pub returns-in_err-commit-clause-counts : goal.returns-in_err-commit-clause-counts
+returns-in_err-commit-clause-counts g c =
+    let i : CountsError g.T.Steps.tells (g.T.Steps.known c.args.caller.now) c.in_err-commit.field-0.0 (g.T.Steps.known c.commits.new.self) =
+    refused_counts _ _ _ _ _ _ (g.T.Steps.known c.args.caller.now) (g.T.Steps.known c.commits.new.self) c.in_err-commit.ensures.err
+    (ap (λ (x : Knowledge). x.faults) c.in_ok-commits.ensures.learns.same) in
+    search rules
+
+pub returns-in_err-propose-clause-counts : goal.returns-in_err-propose-clause-counts
+returns-in_err-propose-clause-counts g c =
+    let asked : (g.T.Steps.known c.commits.new.self).faults ≡ (g.T.Steps.known c.args.caller.now).faults = ap (λ (x : Knowledge). x.faults) c.in_ok-commits.ensures.learns.same in
+    let i : CountsError g.T.Steps.tells (g.T.Steps.known c.args.caller.now) (of_fault c.in_err-propose.field-0.0) (g.T.Steps.known c.propose.new.caller) =
+    error_later _ _ (g.T.Steps.known c.args.caller.now) (g.T.Steps.known c.commits.new.self) _ asked
+    (of_turn _ c.in_err-propose.field-0.0 (g.T.Steps.known c.commits.new.self) (g.T.Steps.known c.propose.new.caller) c.in_err-propose.ensures.counts) in
+    search rules
+
+pub returns-in-Done-clause-counts : goal.returns-in-Done-clause-counts
+returns-in-Done-clause-counts g c =
+    let asked : (g.T.Steps.known c.commits.new.self).faults ≡ (g.T.Steps.known c.args.caller.now).faults = ap (λ (x : Knowledge). x.faults) c.in_ok-commits.ensures.learns.same in
+    c.in_ok-propose.ensures.counts ∙ asked
+
+pub returns-in-Lost-clause-counts : goal.returns-in-Lost-clause-counts
+returns-in-Lost-clause-counts g c =
+    let asked : (g.T.Steps.known c.commits.new.self).faults ≡ (g.T.Steps.known c.args.caller.now).faults = ap (λ (x : Knowledge). x.faults) c.in_ok-commits.ensures.learns.same in
+    c.in_ok-propose.ensures.counts ∙ asked
+
+pub returns-clause-counts : goal.returns-clause-counts
+returns-clause-counts g c =
+    let asked : (g.T.Steps.known c.commits.new.self).faults ≡ (g.T.Steps.known c.args.caller.now).faults = ap (λ (x : Knowledge). x.faults) c.in_ok-commits.ensures.learns.same in
+    c.in_ok-propose.ensures.counts ∙ asked

@@ -2,11 +2,13 @@ use Rattle.std.proofs.Common.{rules, ◌≡◌, ◌∙◌, ap, sym, subst, ℕ, 
 use Rattle.std.specs.Int.{w64}
 use Rattle.std.proofs.lemmas.Int.{to_z-of_z}
 use Rattle.table_model.specs.Conditions.{MayRatify}
+use Rattle.writer_txn.specs.Counting.{CountsStop}
 use Rattle.writer_txn.specs.Proposing.{staged_noted, HasStopped}
 use Rattle.writer_txn.proofs.Proposals.{may_ratify, ratified, full, stage_stopped}
 use Rattle.std.specs.Prelude.{Err, []}
 use Rattle.log_names.specs.declared.LogName.TheVariants as name
 use Rattle.table_model.specs.Knowledge.{Knowledge}
+use Rattle.writer_txn.proofs.Faults.{memory_counts, putting_counts, stop_later}
 use Rattle.writer_txn.proofs.Naming.{puts_none, puts_one, puts_kept, stage_puts, ratify_puts}
 use Rattle.writer_txn.proofs.proposing.propose.Goals as goal
 
@@ -67,3 +69,38 @@ returns-in-Full-clause-puts g c =
     let staged = puts_one (name.Staged c.args.version c.args.id) (g.T.Steps.known c.args.caller.now) (g.T.Steps.known c.stage.new.self) (ap (λ (x : Knowledge). x.put) (rw c.in-Done.is at c.in_ok-stage.ensures.learns)) in
     let learnt = rw c.in-Full.is at c.in_ok-ratify.ensures.learns in
     puts_kept _ _ _ _ staged (ap (λ (x : Knowledge). x.put) learnt.same)
+
+pub returns-in_err-stage-clause-counts : goal.returns-in_err-stage-clause-counts
+returns-in_err-stage-clause-counts g c =
+    let i : CountsStop (g.T.Steps.known c.args.caller.now) c.in_err-stage.field-0.0 (g.T.Steps.known c.stage.new.self) =
+    putting_counts (name.Staged c.args.version c.args.id) _ c.in_err-stage.field-0.0 _ c.in_err-stage.ensures.learns in
+    search rules
+
+pub returns-in-Taken-clause-counts : goal.returns-in-Taken-clause-counts
+returns-in-Taken-clause-counts g c = ap (λ (x : Knowledge). x.faults) (rw c.in-Taken.is at c.in_ok-stage.ensures.learns)
+
+pub returns-in_err-ratify-clause-counts : goal.returns-in_err-ratify-clause-counts
+returns-in_err-ratify-clause-counts g c =
+    let staged : (g.T.Steps.known c.stage.new.self).faults ≡ (g.T.Steps.known c.args.caller.now).faults = ap (λ (x : Knowledge). x.faults) (rw c.in-Done.is at c.in_ok-stage.ensures.learns) in
+    let i : CountsStop (g.T.Steps.known c.args.caller.now) c.in_err-ratify.field-0.0 (g.T.Steps.known c.ratify.new.self) =
+    stop_later c.in_err-ratify.field-0.0 (g.T.Steps.known c.args.caller.now) (g.T.Steps.known c.stage.new.self) _ staged
+    (memory_counts _ c.in_err-ratify.field-0.0 _ c.in_err-ratify.ensures.learns) in
+    search rules
+
+pub returns-in-Done-2-clause-counts : goal.returns-in-Done-2-clause-counts
+returns-in-Done-2-clause-counts g c =
+    let staged : (g.T.Steps.known c.stage.new.self).faults ≡ (g.T.Steps.known c.args.caller.now).faults = ap (λ (x : Knowledge). x.faults) (rw c.in-Done.is at c.in_ok-stage.ensures.learns) in
+    let learnt = rw c.in-Done-2.is at c.in_ok-ratify.ensures.learns in
+    ap (λ (x : Knowledge). x.faults) learnt.same ∙ staged
+
+pub returns-in-Lost-clause-counts : goal.returns-in-Lost-clause-counts
+returns-in-Lost-clause-counts g c =
+    let staged : (g.T.Steps.known c.stage.new.self).faults ≡ (g.T.Steps.known c.args.caller.now).faults = ap (λ (x : Knowledge). x.faults) (rw c.in-Done.is at c.in_ok-stage.ensures.learns) in
+    let learnt = rw c.in-Lost.is at c.in_ok-ratify.ensures.learns in
+    ap (λ (x : Knowledge). x.faults) learnt.same ∙ staged
+
+pub returns-in-Full-clause-counts : goal.returns-in-Full-clause-counts
+returns-in-Full-clause-counts g c =
+    let staged : (g.T.Steps.known c.stage.new.self).faults ≡ (g.T.Steps.known c.args.caller.now).faults = ap (λ (x : Knowledge). x.faults) (rw c.in-Done.is at c.in_ok-stage.ensures.learns) in
+    let learnt = rw c.in-Full.is at c.in_ok-ratify.ensures.learns in
+    ap (λ (x : Knowledge). x.faults) learnt.same ∙ staged

@@ -1,8 +1,10 @@
 use Rattle.std.proofs.Common.{rules, arith, ◌∙◌, ◌+◌, [], refl}
 use Rattle.std.specs.Prelude.{Err}
 use Rattle.table_model.proofs.Growing.{grows_refl, grows_trans}
+use Rattle.writer_txn.specs.Counting.{CountsError}
 use Rattle.writer_txn.specs.Moments.{WrittenNow}
 use Rattle.writer_txn.specs.Named.{names_taken}
+use Rattle.writer_txn.proofs.Faults.{error_later}
 use Rattle.writer_txn.proofs.Naming.{apart_none, apart_both, apart_err}
 use Rattle.writer_txn.proofs.Underway.{next_attempt, same_base, first_attempt, contended_now}
 use Rattle.writer_txn.proofs.writes.attempts.Goals as goal
@@ -13,6 +15,7 @@ loop-tried-init g c = record {
   newest = c.requires.newest;
   base = refl;
   underway = λ k u. first_attempt _ _ _ c.requires.newest u;
+  faults = refl;
   steady = λ t. refl;
   names = λ t. apart_none _ _ _ _ refl t;
   grows = grows_refl _;
@@ -30,6 +33,7 @@ loop-tried-preserved g c =
       underway = λ k u.
           (let now = c.in_ok-written.ensures.now k c.loop-tried.tried (next_attempt c.args.front.base c.loop-tried.tried c.loop-tried.front k (g.T.Steps.known c.loop-tried.caller) (c.loop-tried.invariant.underway k u)) in
           same_base c.args.front.base (c.loop-tried.tried + 1) c.loop-tried.front c.in-Lost.next k (g.T.Steps.known c.attempt.new.caller) c.loop-tried.invariant.base (rw c.in-Lost.is at now));
+      faults = c.in_ok-written.ensures.counts ∙ c.loop-tried.invariant.faults;
       steady = λ t. c.in_ok-written.ensures.steady t ∙ c.loop-tried.invariant.steady t;
       names = λ t. (let now = c.in_ok-written.ensures.names t in apart_both _ _ _ _ _ [] [] _ _ _ (c.loop-tried.invariant.names now.before) now);
       grows = grows_trans _ _ _ c.loop-tried.invariant.grows c.in_ok-written.ensures.grows;
@@ -66,3 +70,12 @@ returns-in-Answered-clause-names g c = λ t.
 
 pub returns-clause-names : goal.returns-clause-names
 returns-clause-names g c = λ t. c.loop-tried.invariant.names t
+
+pub returns-in_err-written-clause-counts : goal.returns-in_err-written-clause-counts
+returns-in_err-written-clause-counts g c =
+    let i : CountsError g.T.Steps.tells (g.T.Steps.known c.args.caller.now) c.in_err-written.field-0.0 (g.T.Steps.known c.attempt.new.caller) =
+    error_later _ _ (g.T.Steps.known c.args.caller.now) (g.T.Steps.known c.loop-tried.caller) _ c.loop-tried.invariant.faults c.in_err-written.ensures.counts in
+    search rules
+
+pub returns-in-Answered-clause-counts : goal.returns-in-Answered-clause-counts
+returns-in-Answered-clause-counts g c = c.in_ok-written.ensures.counts ∙ c.loop-tried.invariant.faults

@@ -10,6 +10,7 @@ invariant-loop-tried g l = record {
   newest : l.front.latest + 1 ≡ length (g.T.Steps.known l.caller).seen;
   base : l.front.base ≡ l.fn.front.base;
   underway : (k : Knowledge) → IsUnderway l.fn.front.base 0 k (g.T.Steps.known l.fn.caller) → GoesOn l.fn.front.base l.tried l.front k (g.T.Steps.known l.caller);
+  faults : (g.T.Steps.known l.caller).faults ≡ (g.T.Steps.known l.fn.caller).faults;
   steady : IsTrue g.C.Clock.fixed → g.C.Clock.reading l.clock ≡ g.C.Clock.reading l.fn.clock;
   names : IsTrue (g.U.Ids.differ l.ids) → NamesApart (g.U.Ids.differ l.fn.ids) (g.U.Ids.given l.fn.ids) (g.U.Ids.given l.ids) [] (g.T.Steps.known l.fn.caller) (g.T.Steps.known l.caller);
   grows : IsGrown (g.T.Steps.known l.fn.caller) (g.T.Steps.known l.caller);

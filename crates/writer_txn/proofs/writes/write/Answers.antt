@@ -4,12 +4,14 @@ use Rattle.std.specs.Prelude.{Err, Option, IfSome}
 use Rattle.table_model.specs.Knowledge.{Terms}
 use Rattle.table_model.proofs.Growing.{grows_refl}
 use Rattle.writer_txn.specs.Converting.{of_load}
+use Rattle.writer_txn.specs.Counting.{CountsError}
 use Rattle.writer_txn.specs.Moments.{WrittenNow}
 use Rattle.writer_txn.specs.Writing.{WriteStands, IsAlready}
 use Rattle.writer_txn.proofs.Underway.{latest_now}
 use Rattle.writer_txn.proofs.Beginnings.{loaded_front, loaded_already, loaded_underway, load_refused_stands, load_refused_now}
 use Rattle.std.proofs.Common.{ap}
 use Rattle.table_model.specs.Knowledge.{Knowledge}
+use Rattle.writer_txn.proofs.Faults.{answer_later, of_loading}
 use Rattle.writer_txn.proofs.Naming.{apart_none, apart_since, apart_at, apart_err, names_of_load}
 use Rattle.writer_txn.proofs.writes.write.Goals as goal
 
@@ -65,3 +67,13 @@ returns-in-Some-clause-names g c = λ t. apart_none _ _ _ _ (ap (λ (x : Knowled
 
 pub returns-clause-names : goal.returns-clause-names
 returns-clause-names g c = λ t. apart_since _ _ _ _ _ _ _ (ap (λ (x : Knowledge). x.put) c.in_ok-snapshot.ensures.turns.same) (c.attempts.ensures.names t)
+
+pub returns-in_err-snapshot-clause-counts : goal.returns-in_err-snapshot-clause-counts
+returns-in_err-snapshot-clause-counts g c =
+    let i : CountsError g.T.Steps.tells (g.T.Steps.known c.args.caller.now) (of_load c.in_err-snapshot.field-0.0) (g.T.Steps.known c.load.new.caller) =
+    of_loading _ c.in_err-snapshot.field-0.0 (g.T.Steps.known c.args.caller.now) (g.T.Steps.known c.load.new.caller) c.in_err-snapshot.ensures.counts in
+    search rules
+
+pub returns-clause-counts : goal.returns-clause-counts
+returns-clause-counts g c =
+    answer_later _ _ (g.T.Steps.known c.args.caller.now) (g.T.Steps.known c.load.new.caller) _ c.in_ok-snapshot.ensures.counts c.attempts.ensures.counts
