@@ -1,6 +1,5 @@
 //! The number that a token of JSON writes.
-ghost use Rattle.std.specs.Prelude.{◌≡◌, ◌<◌, ◌==◌, IsTrue, option_map, length, slice_index};
-ghost use Rattle.std.specs.Prelude.{false as no, true as yes};
+ghost use Rattle.std.specs.Prelude.{◌≡◌, ◌<◌, ◌==◌, IsTrue, false, length, option_map, slice_index, true};
 ghost use Rattle.serde_json.specs.Read.{float_of, number_from, number_of};
 ghost use Rattle.serde_json.specs.View.{number_view};
 
@@ -27,7 +26,7 @@ fn begins_with_minus(bytes: &[u8]) -> bool
 }
 
 fn unsigned(numeral: &Numeral<'_>) -> Option<Number>
-    ensures { option_map number_view result ≡ number_from no numeral.now }
+    ensures { option_map number_view result ≡ number_from false numeral.now }
 {
     match numeral.to_u64() {
         Some(number) => Some(Number::from(number)),
@@ -36,7 +35,7 @@ fn unsigned(numeral: &Numeral<'_>) -> Option<Number>
 }
 
 fn negative(numeral: &Numeral<'_>) -> Option<Number>
-    ensures { option_map number_view result ≡ number_from yes numeral.now }
+    ensures { option_map number_view result ≡ number_from true numeral.now }
 {
     if let Some(number) = numeral.to_i64(true) {
         if number < 0 {

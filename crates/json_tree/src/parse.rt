@@ -18,7 +18,7 @@ const MAX_DEPTH: usize = 127;
 impl<'a> Tree<'a> {
     /// The value that a text is (RFC 8259), as `serde_json` reads it. The scratch memory is kept from text to text.
     ///
-    /// `Invalid` comes exactly where the text is none.
+    /// `Invalid` comes only where the text is none; where it is, want of memory may be answered before that is seen.
     pub fn parse(
         alloc: Global,
         text: &'a str,
