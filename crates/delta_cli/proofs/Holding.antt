@@ -14,15 +14,16 @@ use Rattle.table_model.specs.Alone.{Alone, HasAll, IsAfter}
 use Rattle.table_model.proofs.Knowing.{length-log_of}
 use Rattle.table_model.proofs.Growing.{starts_refl}
 use Rattle.table_session.proofs.Wholes.{told_over, session_whole}
+use Rattle.table_session.proofs.Contests.{run_uncontested}
 use Rattle.table_world.specs.Worlds.{fresh_world}
 use Rattle.table_world.specs.Starting.{IsFresh}
 use Rattle.publisher.specs.Worlds.{IsSettled, KeepsLog}
 use Rattle.table_session.specs.Moments.{Moment}
-use Rattle.table_session.specs.Naming.{versions_of, spots_of}
-use Rattle.table_session.specs.Told.{versions_in, total}
+use Rattle.table_session.specs.Naming.{versions_of}
+use Rattle.table_session.specs.Told.{versions_in, faults_in}
 use Rattle.table_session.specs.Over.{IsWhole}
 use Rattle.table_session.specs.Sessions.{SessionOf, Wrote}
-use Rattle.delta_cli.specs.Endings.{IsStatusOf, IsCutShort, HasFailed}
+use Rattle.delta_cli.specs.Endings.{IsStatusOf, IsCutShort, HasFailed, DrainsWithoutFault}
 use Rattle.delta_cli.specs.Runs.{CountsCommits, HasRun}
 use Rattle.delta_cli.specs.declared.endings.Status.{Status}
 use Rattle.delta_cli.specs.declared.endings.Status.TheVariants as status
@@ -92,6 +93,11 @@ rose_in_session w0 w1 t k1 n none first some faults =
     let rose : 0 < k1.faults = omega (arith, some, faults) in
     omega (arith, first.cause rose, none)
 
+-- where the session met none, the store's count stayed
+silent_session : (w0 w1 : WorldData) (t : Terms) (k1 : Knowledge) (n : ℕ) → w0.tally ≡ 0
+    → IsAfter (record { world = w0; known = at_start t }) (record { world = w1; known = k1 }) → k1.faults ≤ 0 + n → n ≡ 0 → w1.tally ≡ 0
+silent_session w0 w1 t k1 n none first most nil = first.quiet (omega (arith, most, nil)) ∙ none
+
 drain_failed : (tells : Bool) (w1 w2 : WorldData) (k1 k2 : Knowledge) → IsAfter (record { world = w1; known = k1 }) (record { world = w2; known = k2 })
     → HasFailed tells k1 k2 → (w1.tally < w2.tally) ⊎ (¬ (IsTrue tells))
 drain_failed tells w1 w2 k1 k2 after (inl rose) = inl (after.cause rose)
@@ -104,12 +110,14 @@ held : (limits : Limits) (files : Files) (tells : Bool) (w0 w1 w2 : WorldData) (
     → IsAfter (record { world = w0; known = at_start (terms_of w0) }) (record { world = w1; known = k1 })
     → IsAfter (record { world = w1; known = k1 }) (record { world = w2; known = k2 })
     → KeepsLog w1 w2
-    → IsStatusOf e st → (st ≡ status.StoreFault → HasFailed tells k1 k2) → (st ≡ status.Done → IsSettled w2) → IsConsistent w2
+    → limits.versions ≤ limits.unpublished → 1 ≤ limits.attempts
+    → IsStatusOf e st → (st ≡ status.StoreFault → HasFailed tells k1 k2) → (DrainsWithoutFault st → k2.faults ≡ k1.faults) → (st ≡ status.Done → IsSettled w2) → IsConsistent w2
     → HasRun limits tells files fixed reading differ given differ' given' in_tells taken left taken' left' out_tells written written' st w2
-held limits files tells w0 w1 w2 k1 k2 fixed reading differ given differ' given' in_tells taken left taken' left' out_tells written written' e st fresh session first second keeps ends failed settled consistent =
+held limits files tells w0 w1 w2 k1 k2 fixed reading differ given differ' given' in_tells taken left taken' left' out_tells written written' e st fresh session first second keeps roomy least ends failed same settled consistent =
     let start : HasAll (record { world = w0; known = at_start (terms_of w0) }) =
     subst (λ (w : WorldData). HasAll (record { world = w; known = at_start (terms_of w) })) (sym fresh.is) (new_has_all limits files tells) in
     let all : HasAll (record { world = w1; known = k1 }) = first.all start in
+    let is_limits : w2.limits ≡ limits = second.later.limits ∙ first.later.limits ∙ ap (λ (w : WorldData). w.limits) fresh.is in
     let none : w0.tally ≡ 0 = ap (λ (w : WorldData). w.tally) fresh.is in
     let terms : terms_of w2 ≡ terms_of w0 = terms_same w1 w2 second.later ∙ terms_same w0 w1 first.later in
     let there : SessionOf tells (at_start (terms_of w2)) k1 fixed reading differ given differ' given' in_tells taken left taken' left' out_tells written written' e =
@@ -119,20 +127,26 @@ held limits files tells w0 w1 w2 k1 k2 fixed reading differ given differ' given'
     sym (ap length there.session.told.mine) ∙ all.mine ∙ sym (length-log_of w1) ∙ sym (ap length log) in
     record {
       empty = fresh.empty;
-      limits_are = second.later.limits ∙ first.later.limits ∙ ap (λ (w : WorldData). w.limits) fresh.is;
+      limits_are = is_limits;
       consistent = consistent;
       ended = e;
       known = k1;
       seen = all.seen ∙ sym log;
       session = there;
       status_is = ends;
+      alone = run_uncontested tells (at_start (terms_of w2)) k1 (terms_of w2) there.session.moments there.session.run refl
+          (let P : Limits → Type 0 = λ l. 1 ≤ l.attempts in subst P (sym is_limits) least)
+          (first.tries start (let P : Limits → Type 0 = λ l. l.versions ≤ l.unpublished in subst P (sym (ap (λ (w : WorldData). w.limits) fresh.is)) roomy))
+          (omega (arith, ap length (all.seen ∙ sym log), count));
       told = told_over tells (at_start (terms_of w2)) k1 there.session.moments (log_of w2) (subst (λ (log : List Commit). StartsWith log k1.seen) (all.seen ∙ sym log) (starts_refl k1.seen)) there.session.told;
       commits = counts_commits there.wrote there.session.moments there.session.said there.session.unsaid e st (length (log_of w2)) there.session.all
           (session_whole tells there.read there.wrote (at_start (terms_of w2)) k1 e there.session) there.session.wrote_is ends count;
-      faults = λ t some. rose_in_session w0 w1 (terms_of w0) k1 (total (λ r. length (spots_of r)) there.session.moments) none first some (there.session.told.faults t);
+      faults = λ t some. rose_in_session w0 w1 (terms_of w0) k1 (faults_in there.session.moments) none first some (there.session.told.faults t);
+      silent = silent_session w0 w1 (terms_of w0) k1 (faults_in there.session.moments) none first there.session.told.no_other;
       rise = w1.tally;
       later = second.later.tally;
       drain = λ is. drain_failed tells w1 w2 k1 k2 second (failed is);
+      quiet = λ drains. second.quiet (same drains);
       settled = settled;
     }
 
@@ -143,12 +157,13 @@ pub held_by : (limits : Limits) (files : Files) (tells : Bool) (w0 w2 : WorldDat
     → IsFresh limits files tells w0
     → SessionOf tells a0.known a1.known fixed reading differ given differ' given' in_tells taken left taken' left' out_tells written written' e
     → IsAfter a0 a1 → IsAfter a1 a2 → KeepsLog a1.world a2.world
-    → IsStatusOf e st → (st ≡ status.StoreFault → HasFailed tells a1.known a2.known) → (st ≡ status.Done → IsSettled a2.world) → IsConsistent w2
+    → limits.versions ≤ limits.unpublished → 1 ≤ limits.attempts
+    → IsStatusOf e st → (st ≡ status.StoreFault → HasFailed tells a1.known a2.known) → (DrainsWithoutFault st → a2.known.faults ≡ a1.known.faults) → (st ≡ status.Done → IsSettled a2.world) → IsConsistent w2
     → HasRun limits tells files fixed reading differ given differ' given' in_tells taken left taken' left' out_tells written written' st w2
-held_by limits files tells w0 w2 a0 a1 a2 fixed reading differ given differ' given' in_tells taken left taken' left' out_tells written written' e st world_is known_is last_is fresh session first second keeps ends failed settled consistent =
+held_by limits files tells w0 w2 a0 a1 a2 fixed reading differ given differ' given' in_tells taken left taken' left' out_tells written written' e st world_is known_is last_is fresh session first second keeps roomy least ends failed same settled consistent =
     let start : a0 ≡ record { world = w0; known = at_start (terms_of w0) } =
     ap (λ (w : WorldData). let a : Alone = record { world = w; known = a0.known } in a) world_is ∙ ap (λ (k : Knowledge). let a : Alone = record { world = w0; known = k } in a) known_is in
     subst (λ (w : WorldData). HasRun limits tells files fixed reading differ given differ' given' in_tells taken left taken' left' out_tells written written' st w) (sym last_is)
     (held limits files tells w0 a1.world a2.world a1.known a2.known fixed reading differ given differ' given' in_tells taken left taken' left' out_tells written written' e st fresh
     (subst (λ (k : Knowledge). SessionOf tells k a1.known fixed reading differ given differ' given' in_tells taken left taken' left' out_tells written written' e) known_is session)
-    (subst (λ (a : Alone). IsAfter a a1) start first) second keeps ends failed settled (subst IsConsistent last_is consistent))
+    (subst (λ (a : Alone). IsAfter a a1) start first) second keeps roomy least ends failed same settled (subst IsConsistent last_is consistent))

@@ -46,6 +46,17 @@ IsCutShort status.StoreFault = ⊥
 IsCutShort status.NotEmpty = ⊥
 IsCutShort status.TooMuch = ⊥
 
+-- no fault of the store was met in the drain: it got through, or memory ran out
+abbrev pub DrainsWithoutFault : Status → Type 0
+DrainsWithoutFault status.Done = ⊤
+DrainsWithoutFault status.Usage = ⊥
+DrainsWithoutFault status.Memory = ⊤
+DrainsWithoutFault status.ReadFault = ⊥
+DrainsWithoutFault status.WriteFault = ⊥
+DrainsWithoutFault status.StoreFault = ⊥
+DrainsWithoutFault status.NotEmpty = ⊥
+DrainsWithoutFault status.TooMuch = ⊥
+
 abbrev pub status_in : {S : Type 0} → Ended S → Status
 status_in (ended.NotRun st back) = st
 status_in (ended.Ran st world) = st

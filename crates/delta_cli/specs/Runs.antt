@@ -1,5 +1,5 @@
 -- What a run leaves: of one for which no session was begun, and of one with a session.
-use Rattle.std.specs.Prelude.{◌≡◌, ◌<◌, ◌≤◌, ◌+◌, ◌⊎◌, ℕ, ℤ, Bool, List, length, IsTrue, IsSome, String, None}
+use Rattle.std.specs.Prelude.{◌≡◌, ◌<◌, ◌≤◌, ◌+◌, ◌⊎◌, ℕ, ℤ, Bool, List, length, All, IsTrue, IsSome, String, None}
 use Rattle.std.specs.declared.alloc.Global.{Global}
 use Rattle.commit_catalog.specs.declared.Limits.{Limits}
 use Rattle.lake_io.specs.declared.answers.End.{End}
@@ -10,12 +10,12 @@ use Rattle.table_model.specs.Knowledge.{Knowledge, at_start}
 use Rattle.table_model.specs.Holding.{terms_of}
 use Rattle.table_world.specs.Worlds.{first_log_name}
 use Rattle.publisher.specs.Worlds.{IsSettled}
-use Rattle.table_session.specs.Naming.{spots_of}
-use Rattle.table_session.specs.Told.{versions_in, total}
+use Rattle.table_session.specs.Told.{versions_in, faults_in}
 use Rattle.table_session.specs.Over.{ToldOver}
+use Rattle.table_session.specs.Contests.{IsUncontested}
 use Rattle.table_session.specs.Sessions.{SessionOf}
 use Rattle.delta_cli.specs.Words.{IsRun}
-use Rattle.delta_cli.specs.Endings.{IsStatusOf, IsCutShort}
+use Rattle.delta_cli.specs.Endings.{IsStatusOf, IsCutShort, DrainsWithoutFault}
 use Rattle.delta_cli.specs.declared.endings.Status.{Status}
 use Rattle.delta_cli.specs.declared.endings.Status.TheVariants as status
 
@@ -55,12 +55,17 @@ pub record HasRun (limits : Limits) (tells : Bool) (files : Files) (fixed : Bool
   pub status_is : IsStatusOf ended st
   -- each reply is right of the commits of this world, fronts never fall, and none is above their number
   pub told : ToldOver tells session.session.moments (log_of world)
+  -- nobody else ratifies: no reply is Conflict or Contended
+  pub alone : All (λ x. IsUncontested x.reply) session.session.moments
   -- each commit of the table is that of one Committed reply
   pub commits : CountsCommits (length (versions_in session.session.said)) (length (versions_in session.session.unsaid)) (length (log_of world)) st
-  -- by so much had the store's count of faults risen when the session ended; a Fault reply comes only where it rose
+  -- by so much had the store's count of faults risen when the session ended; a Fault reply comes only where it rose, and it rose only where
+  -- one comes
   pub rise : ℕ
-  pub faults : IsTrue tells → 0 < total (λ r. length (spots_of r)) session.session.moments → 0 < rise
+  pub faults : IsTrue tells → 0 < faults_in session.session.moments → 0 < rise
+  pub silent : faults_in session.session.moments ≡ 0 → rise ≡ 0
   -- in the drain it rose further, where that failed
   pub later : rise ≤ world.tally
   pub drain : st ≡ status.StoreFault → (rise < world.tally) ⊎ (¬ (IsTrue tells))
+  pub quiet : DrainsWithoutFault st → world.tally ≡ rise
   pub settled : st ≡ status.Done → IsSettled world

@@ -1,6 +1,6 @@
 ghost use Rattle.std.specs.Prelude.{◌≡◌, IfSome};
 ghost use Rattle.delta_cli.specs.declared.endings.Status.TheVariants as status;
-ghost use Rattle.delta_cli.specs.Endings.{IsStatusOf, HasFailed};
+ghost use Rattle.delta_cli.specs.Endings.{IsStatusOf, HasFailed, DrainsWithoutFault};
 ghost use Rattle.table_model.specs.Knowledge.{IsGrown};
 ghost use Rattle.table_model.specs.Turns.{TellsTurn};
 ghost use Rattle.publisher.specs.Worlds.{IsSettled, KeepsLog};
@@ -17,6 +17,7 @@ pub(crate) fn settle<T: Steps>(caller: &mut T, alloc: Global, end: End) -> Statu
     ensures end { IsStatusOf end result }
     ensures settled { result ≡ status.Done → IfSome (T.world caller.new) IsSettled }
     ensures cause { result ≡ status.StoreFault → HasFailed T.tells (T.known caller.old) (T.known caller.new) }
+    ensures quiet { DrainsWithoutFault result → (T.known caller.new).faults ≡ (T.known caller.old).faults }
     ensures log { TellsTurn KeepsLog (T.world caller.old) (T.world caller.new) }
     ensures after { T.after caller.old caller.new }
 {
@@ -43,6 +44,7 @@ fn settle_done<T: Steps>(caller: &mut T, alloc: Global) -> Status
     ensures end { IsStatusOf End.Done result }
     ensures settled { result ≡ status.Done → IfSome (T.world caller.new) IsSettled }
     ensures cause { result ≡ status.StoreFault → HasFailed T.tells (T.known caller.old) (T.known caller.new) }
+    ensures quiet { DrainsWithoutFault result → (T.known caller.new).faults ≡ (T.known caller.old).faults }
     ensures log { TellsTurn KeepsLog (T.world caller.old) (T.world caller.new) }
     ensures after { T.after caller.old caller.new }
 {

@@ -142,7 +142,7 @@ pub outcome-commits : (w x : WorldData) (k : Knowledge) (r : Result Commits Step
     → Outcome w x k (commits_learned k r x)
 outcome-commits w x k (Ok c) con h t =
     let P : WorldData → Type 0 = λ y. Outcome w y k (commits_learned k (Ok c) y) in
-    subst P (sym t.1) (outcome-quiet w k _ con (commits_known w k c con h t.0) (commits_grown w k c h t.0) refl refl (λ e. refl))
+    subst P (sym t.1) (outcome-quiet w k _ con (commits_known w k c con h t.0) (commits_grown w k c h t.0) refl refl (λ e. refl) (λ e roomy. refl))
 outcome-commits w x k (Err Memory) con h t =
     let P : WorldData → Type 0 = λ y. Outcome w y k k in
     subst P (sym t) (outcome-refused w k con h)

@@ -42,8 +42,8 @@ use Rattle.table_model.proofs.Sound.{last_or_below}
 use Rattle.table_model.proofs.Changing.{Change, change-none, change-stage, change-publish, change-clear, IsDueText}
 
 -- a change of the files, and what is known after it
-outcome-changed : (w y : WorldData) (k m : Knowledge) → Change w y → HoldsIn y m → IsGrown k m → m.mine ≡ k.mine → m.faults ≡ k.faults → m.seen ≡ k.seen → Outcome w y k m
-outcome-changed w y k m c h g mine faults seen = record {
+outcome-changed : (w y : WorldData) (k m : Knowledge) → Change w y → HoldsIn y m → IsGrown k m → m.mine ≡ k.mine → m.faults ≡ k.faults → m.seen ≡ k.seen → m.tries ≡ k.tries → Outcome w y k m
+outcome-changed w y k m c h g mine faults seen tries = record {
   later = c.later;
   consistent = c.consistent;
   holds = h;
@@ -52,6 +52,8 @@ outcome-changed w y k m c h g mine faults seen = record {
   alone = λ e. seen ∙ e ∙ sym (same_log_of w y c.later c.records);
   own = ap (λ (es : List Entry). length es + length k.mine) c.records ∙ ap (λ (vs : List ℕ). length w.records + length vs) (sym mine);
   faults = let e = c.tally in omega (arith, faults, e);
+  quiet = λ same. c.tally;
+  untried = λ e roomy. tries;
 }
 
 -- a change in doubt
@@ -206,6 +208,8 @@ outcome-put w x k m n o = record {
   alone = o.alone;
   own = o.own;
   faults = o.faults;
+  quiet = o.quiet;
+  untried = o.untried;
 }
 
 pub outcome-stage : (version id : ℕ) (text : List ℕ) (w x : WorldData) (k : Knowledge) (r : Result Staged StepFault) → IsConsistent w → HoldsIn w k
@@ -216,10 +220,10 @@ outcome-stage version id text w x k (Ok staged.Done) con h small tiny t =
     let c : Change w y = change-stage w version id text con small tiny t.absent t.unratified in
     subst P (sym t.done) (outcome-changed w y k _ c
     (staged_holds w y k version id text (holds_later w y k h c.later) (λ tells. staged_file w version id text small tiny tells))
-    (staged_grown k version id text) refl refl refl)
+    (staged_grown k version id text) refl refl refl refl)
 outcome-stage version id text w x k (Ok staged.Taken) con h small tiny t =
     let P : WorldData → Type 0 = λ z. Outcome w z k (stage_learned version id text k (Ok staged.Taken)) in
-    subst P (sym t.same) (outcome-quiet w k _ con (taken_holds w k _ h) (taken_grown k _) refl refl (λ e. e))
+    subst P (sym t.same) (outcome-quiet w k _ con (taken_holds w k _ h) (taken_grown k _) refl refl (λ e. e) (λ e roomy. refl))
 outcome-stage version id text w x k (Err Memory) con h small tiny t =
     let P : WorldData → Type 0 = λ z. Outcome w z k k in subst P (sym t) (outcome-refused w k con h)
 outcome-stage version id text w x k (Err (Fault at)) con h small tiny t =
@@ -303,10 +307,10 @@ outcome-publish version text w x k (Ok put.Done) con h small m t =
     let c : Change w y = change-publish w k version text con small t.absent (due_text w k version text h m) in
     subst P (sym t.done) (outcome-changed w y k _ c
     (published_holds y k version (holds_later w y k h c.later) m.below (λ tells. published_file w version text small tells))
-    (published_grown k _ (omega arith)) refl refl refl)
+    (published_grown k _ (omega arith)) refl refl refl refl)
 outcome-publish version text w x k (Ok put.There) con h small m t =
     let P : WorldData → Type 0 = λ z. Outcome w z k (publish_learned version k (Ok put.There)) in
-    subst P (sym t.same) (outcome-quiet w k _ con (published_holds w k version h m.below t.there) (published_grown k _ (omega arith)) refl refl (λ e. e))
+    subst P (sym t.same) (outcome-quiet w k _ con (published_holds w k version h m.below t.there) (published_grown k _ (omega arith)) refl refl (λ e. e) (λ e roomy. refl))
 outcome-publish version text w x k (Err Memory) con h small m t =
     let P : WorldData → Type 0 = λ z. Outcome w z k k in subst P (sym t) (outcome-refused w k con h)
 outcome-publish version text w x k (Err (Fault at)) con h small m t =
@@ -426,6 +430,8 @@ outcome-report count w x k (Ok n) con h m t =
       alone = λ seen. seen;
       own = refl;
       faults = omega arith;
+      quiet = λ same. refl;
+      untried = λ e roomy. refl;
     })
 outcome-report count w x k (Err Memory) con h m t =
     let P : WorldData → Type 0 = λ y. Outcome w y k k in subst P (sym t) (outcome-refused w k con h)
@@ -492,10 +498,10 @@ outcome-clear version id w x k (Ok gone.Done) con h small tiny m t =
     let y : WorldData = told_drop w (name.Staged version id) in
     let P : WorldData → Type 0 = λ z. Outcome w z k (clear_learned version id k (Ok gone.Done)) in
     let c : Change w y = change-clear w version id con small tiny (let s = h.reported in omega arith) in
-    subst P (sym t.done) (outcome-changed w y k _ c (cleared_holds y k _ (holds_later w y k h c.later)) (cleared_grown k _) refl refl refl)
+    subst P (sym t.done) (outcome-changed w y k _ c (cleared_holds y k _ (holds_later w y k h c.later)) (cleared_grown k _) refl refl refl refl)
 outcome-clear version id w x k (Ok gone.Absent) con h small tiny m t =
     let P : WorldData → Type 0 = λ z. Outcome w z k (clear_learned version id k (Ok gone.Absent)) in
-    subst P (sym t.same) (outcome-quiet w k _ con (cleared_holds w k _ h) (cleared_grown k _) refl refl (λ e. e))
+    subst P (sym t.same) (outcome-quiet w k _ con (cleared_holds w k _ h) (cleared_grown k _) refl refl (λ e. e) (λ e roomy. refl))
 outcome-clear version id w x k (Err Memory) con h small tiny m t =
     let P : WorldData → Type 0 = λ z. Outcome w z k k in subst P (sym t) (outcome-refused w k con h)
 outcome-clear version id w x k (Err (Fault at)) con h small tiny m t =

@@ -18,8 +18,8 @@ use Rattle.table_model.proofs.Knowing.{seen_length, length-log_of, whole_front}
 
 -- nothing was done, and what is known holds
 pub outcome-quiet : (w : WorldData) (k m : Knowledge) → IsConsistent w → HoldsIn w m → IsGrown k m → m.mine ≡ k.mine → m.faults ≡ k.faults
-    → (k.seen ≡ log_of w → m.seen ≡ log_of w) → Outcome w w k m
-outcome-quiet w k m c h g mine faults alone = record {
+    → (k.seen ≡ log_of w → m.seen ≡ log_of w) → (k.seen ≡ log_of w → w.limits.versions ≤ w.limits.unpublished → m.tries ≡ k.tries) → Outcome w w k m
+outcome-quiet w k m c h g mine faults alone untried = record {
   later = later_refl w;
   consistent = c;
   holds = h;
@@ -28,11 +28,13 @@ outcome-quiet w k m c h g mine faults alone = record {
   alone = alone;
   own = ap (λ (vs : List ℕ). length w.records + length vs) (sym mine);
   faults = omega (arith, faults);
+  quiet = λ same. refl;
+  untried = untried;
 }
 
 -- want of memory
 pub outcome-refused : (w : WorldData) (k : Knowledge) → IsConsistent w → HoldsIn w k → Outcome w w k k
-outcome-refused w k c h = outcome-quiet w k k c h (grows_refl k) refl refl (λ e. e)
+outcome-refused w k c h = outcome-quiet w k k c h (grows_refl k) refl refl (λ e. e) (λ e roomy. refl)
 
 noted-holds : (x : WorldData) (k : Knowledge) (at : Spot) → HoldsIn x k → k.faults + 1 ≤ x.tally → HoldsIn x (fault_noted at k)
 noted-holds x k at h room = record {
@@ -94,6 +96,8 @@ outcome-failed w x n k at c h later same records rose =
       alone = λ e. e ∙ sym (same_log_of w x later records);
       own = ap (λ (es : List Entry). length es + length k.mine) records;
       faults = omega arith;
+      quiet = λ same. absurd (omega (arith, same));
+      untried = λ e roomy. refl;
     }
 
 -- a number below the larger of two

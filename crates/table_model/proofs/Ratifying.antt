@@ -257,6 +257,8 @@ outcome-ratified w k version id time text con h free r =
       alone = λ e. refl;
       own = let a = more_records w id time in let b = length-append k.mine (version ∷ []) in omega (arith, a, b);
       faults = omega arith;
+      quiet = λ same. refl;
+      untried = λ e roomy. refl;
     }
 
 one_text : (o : Option (List ℕ)) (a b : List ℕ) → o ≡ Some a → o ≡ Some b → a ≡ b
@@ -412,6 +414,13 @@ at_backlog : (o : Option Terms) (w : WorldData) (n r : ℕ) → IfSome o (λ t. 
 at_backlog None w n r e h g = tt
 at_backlog (Some t) w n r e h g = let P : Terms → Type 0 = λ u. (n < u.limits.versions) × (n ≡ r + u.limits.unpublished) in subst P (sym e) (h, g)
 
+-- a version that is seen already is no try
+no_try : (k : Knowledge) (version : ℕ) (answer : Refusal) → version < length k.seen → tries_after k version answer ≡ k.tries
+no_try k version answer less = elim (eqb_tells version (length k.seen)) [
+  | inl same ↦ absurd (omega (arith, same.1, less))
+  | inr other ↦ ap (λ (b : Bool). k.tries ++ cond b ((let t : Try = record { version = version; answer = answer } in t) ∷ []) []) other.0 ∙ append-nil k.tries
+]
+
 pub outcome-ratify : (version id : ℕ) (time : ℤ) (w x : WorldData) (k : Knowledge) (r : Result Ratify StepFault) → IsConsistent w → HoldsIn w k
     → MayRatify w.tells k version id time → RatifyTurn version id time w r x → Outcome w x k (ratify_learned version k r x)
 outcome-ratify version id time w x k (Ok ratify.Done) con h m t =
@@ -420,14 +429,17 @@ outcome-ratify version id time w x k (Ok ratify.Done) con h m t =
     subst P (sym t.after) (outcome-ratified w k version id time m.bytes con h free (ready w k version id time h m free.next))
 outcome-ratify version id time w x k (Ok (ratify.Lost latest)) con h m t =
     let P : WorldData → Type 0 = λ y. Outcome w y k (ratify_learned version k (Ok (ratify.Lost latest)) y) in
-    subst P (sym t.after) (outcome-quiet w k _ con (tried_holds w k version refusal.Lost h) (lost_grown w k version refusal.Lost h) refl refl (λ e. refl))
+    let lost : IsLost (length w.records) version latest = t.answer in
+    subst P (sym t.after)
+    (outcome-quiet w k _ con (tried_holds w k version refusal.Lost h) (lost_grown w k version refusal.Lost h) refl refl (λ e. refl)
+    (λ e roomy. no_try k version refusal.Lost (omega (arith, lost.below, ap length e, length-log_of w))))
 outcome-ratify version id time w x k (Ok (ratify.Full latest)) con h m t =
     let P : WorldData → Type 0 = λ y. Outcome w y k (ratify_learned version k (Ok (ratify.Full latest)) y) in
-    subst P (sym t.after) (outcome-quiet w k _ con (seen_holds w k k h) (full_grown w k h) refl refl (λ e. refl))
+    subst P (sym t.after) (outcome-quiet w k _ con (seen_holds w k k h) (full_grown w k h) refl refl (λ e. refl) (λ e roomy. refl))
 outcome-ratify version id time w x k (Ok (ratify.Backlog latest reported)) con h m t =
     let P : WorldData → Type 0 = λ y. Outcome w y k (ratify_learned version k (Ok (ratify.Backlog latest reported)) y) in
     let b : IsBacklog w.limits (length w.records) w.reported version latest reported = t.answer in
-    subst P (sym t.after) (outcome-quiet w k _ con (backlog_holds w k version reported con h b.told) (backlog_grown w k version reported h b.told) refl refl (λ e. refl))
+    subst P (sym t.after) (outcome-quiet w k _ con (backlog_holds w k version reported con h b.told) (backlog_grown w k version reported h b.told) refl refl (λ e. refl) (λ e roomy. absurd (omega (arith, b.allowed, b.at_limit, roomy))))
 outcome-ratify version id time w x k (Err Memory) con h m t =
     let P : WorldData → Type 0 = λ y. Outcome w y k k in
     subst P (sym t) (outcome-refused w k con h)

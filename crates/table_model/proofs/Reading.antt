@@ -145,7 +145,7 @@ pub outcome-list : (w x : WorldData) (k : Knowledge) (r : Result (Vec LogName Gl
     → Outcome w x k (list_learned k r)
 outcome-list w x k (Ok names) con h t =
     let P : WorldData → Type 0 = λ y. Outcome w y k (list_learned k (Ok names)) in
-    subst P (sym t.same) (outcome-quiet w k _ con (list_known w k names.items con h t.names_are) (list_grown k names.items) refl refl (λ e. e))
+    subst P (sym t.same) (outcome-quiet w k _ con (list_known w k names.items con h t.names_are) (list_grown k names.items) refl refl (λ e. e) (λ e roomy. refl))
 outcome-list w x k (Err Memory) con h t =
     let P : WorldData → Type 0 = λ y. Outcome w y k k in
     subst P (sym t) (outcome-refused w k con h)
@@ -395,15 +395,22 @@ kept_seen (name.Checkpoint v id) b k = refl
 kept_seen (name.Parquet v) b k = refl
 kept_seen name.Other b k = refl
 
+kept_tries : (n : LogName) (b : List ℕ) (k : Knowledge) → (kept_after n b k).tries ≡ k.tries
+kept_tries (name.Published v) b k = refl
+kept_tries (name.Staged v id) b k = refl
+kept_tries (name.Checkpoint v id) b k = refl
+kept_tries (name.Parquet v) b k = refl
+kept_tries name.Other b k = refl
+
 pub outcome-get : (n : LogName) (w x : WorldData) (k : Knowledge) (r : Result Bytes StepFault) → IsConsistent w → HoldsIn w k → GetTurn n w r x
     → Outcome w x k (get_learned n k r)
 outcome-get n w x k (Ok (bytes.Whole b)) con h t =
     let P : WorldData → Type 0 = λ y. Outcome w y k (get_learned n k (Ok (bytes.Whole b))) in
     let m = get_mine k n b.items in
-    subst P (sym t.same) (outcome-quiet w k _ con (get_known w k n b.items con h t.is) (get_grown k n b.items) m.0 m.1 (λ e. kept_seen n b.items k ∙ e))
+    subst P (sym t.same) (outcome-quiet w k _ con (get_known w k n b.items con h t.is) (get_grown k n b.items) m.0 m.1 (λ e. kept_seen n b.items k ∙ e) (λ e roomy. kept_tries n b.items k))
 outcome-get n w x k (Ok bytes.Absent) con h t =
     let P : WorldData → Type 0 = λ y. Outcome w y k (get_learned n k (Ok bytes.Absent)) in
-    subst P (sym t.same) (outcome-quiet w k _ con (absent_known w k n con h t.is) (absent_grown k n) refl refl (λ e. e))
+    subst P (sym t.same) (outcome-quiet w k _ con (absent_known w k n con h t.is) (absent_grown k n) refl refl (λ e. e) (λ e roomy. refl))
 outcome-get n w x k (Err Memory) con h t =
     let P : WorldData → Type 0 = λ y. Outcome w y k k in
     subst P (sym t) (outcome-refused w k con h)

@@ -16,5 +16,8 @@ pub record Outcome (w x : WorldData) (k m : Knowledge) : Type 0 where
   -- who had seen the whole log has seen it still, and each new commit is the caller's own
   pub alone : k.seen ≡ log_of w → m.seen ≡ log_of x
   pub own : length x.records + length k.mine ≡ length w.records + length m.mine
-  -- its faults rose by no more than the store's count
+  -- its faults rose by no more than the store's count, which rose only with them
   pub faults : m.faults + w.tally ≤ k.faults + x.tally
+  pub quiet : m.faults ≡ k.faults → x.tally ≡ w.tally
+  -- who had seen the whole log loses no try, where as many commits may be unpublished as there may be versions
+  pub untried : k.seen ≡ log_of w → w.limits.versions ≤ w.limits.unpublished → m.tries ≡ k.tries

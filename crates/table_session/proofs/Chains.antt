@@ -70,10 +70,16 @@ run_mine tells k m [] r = ap (λ (n : Knowledge). n.mine) r ∙ sym (append-nil 
 run_mine tells k m (x ∷ xs) r =
     run_mine tells x.after m xs r.1 ∙ ap (λ vs. vs ++ versions_in xs) r.0.gains.mine ∙ append_assoc k.mine (versions_of x.reply) (versions_in xs)
 
-run_total : (tells : Bool) (part : Knowledge → ℕ) (worth : Reply → ℕ) → ((k : Knowledge) (x : Moment) → IsRight tells k x → part k + worth x.reply ≤ part x.after)
+pub run_total : (tells : Bool) (part : Knowledge → ℕ) (worth : Reply → ℕ) → ((k : Knowledge) (x : Moment) → IsRight tells k x → part k + worth x.reply ≤ part x.after)
     → (k m : Knowledge) (xs : List Moment) → Run tells k xs m → part k + total worth xs ≤ part m
 run_total tells part worth one k m [] r = omega (arith, ap part r)
 run_total tells part worth one k m (x ∷ xs) r = omega (arith, one k x r.0, run_total tells part worth one x.after m xs r.1)
+
+-- a count that rises in each moment by no more than this of its reply
+run_most : (tells : Bool) (part : Knowledge → ℕ) (worth : Reply → ℕ) → ((k : Knowledge) (x : Moment) → IsRight tells k x → part x.after ≤ part k + worth x.reply)
+    → (k m : Knowledge) (xs : List Moment) → Run tells k xs m → part m ≤ part k + total worth xs
+run_most tells part worth one k m [] r = omega (arith, ap part r)
+run_most tells part worth one k m (x ∷ xs) r = omega (arith, one k x r.0, run_most tells part worth one x.after m xs r.1)
 
 pub run_told : (tells : Bool) (k m : Knowledge) (xs : List Moment) → Run tells k xs m → Told tells k xs m
 run_told tells k m xs r = record {
@@ -84,6 +90,7 @@ run_told tells k m xs r = record {
   mine = run_mine tells k m xs r;
   asked = run_total tells (λ n. n.asks) (λ r. one_for (front_of r)) (λ k x h. h.gains.asked) k m xs r;
   faults = λ t. run_total tells (λ n. n.faults) (λ r. length (spots_of r)) (λ k x h. h.gains.faults t) k m xs r;
+  no_other = run_most tells (λ n. n.faults) (λ r. length (spots_of r)) (λ k x h. h.gains.no_other) k m xs r;
   failed = λ t test. run_total tells (λ n. times test n.failed) (λ r. times test (spots_of r)) (λ k x h. h.gains.failed t test) k m xs r;
   takens = λ test. run_total tells (λ n. times test n.takens) (λ r. times test (takens_of r)) (λ k x h. h.gains.takens test) k m xs r;
   tries = run_total tells (λ n. length n.tries) tries_of (λ k x h. h.gains.tries) k m xs r;

@@ -7,7 +7,7 @@ use Rattle.table_model.specs.Knowledge.{Knowledge, IsGrown, StartsWith}
 use Rattle.session_lines.specs.declared.reply.Reply.{Reply}
 use Rattle.session_lines.specs.declared.reply.Reply.TheVariants as reply
 use Rattle.table_model.specs.declared.answers.Spot.TheVariants as spot
-use Rattle.snapshot_load.specs.Causes.{FailedAt, FaultCause}
+use Rattle.snapshot_load.specs.Causes.{FailedAt, FaultCause, CountsFault}
 use Rattle.table_session.specs.Replying.{file_of}
 use Rattle.table_session.specs.Naming.{spot_of, front_of, newest_of, base_of, versions_of, spots_of, takens_of, tries_of}
 use Rattle.table_session.specs.Gaining.{known_length, times, one_for, IsFront, Gains}
@@ -25,14 +25,15 @@ pub record IsFrontOf (r : Reply) (k m : Knowledge) : Type 0 where
   pub mine : m.mine ≡ k.mine ++ versions_of r
 
 -- a reply that names no fault, no name taken and no try
-pub gains_quiet : (tells : Bool) (r : Reply) (k m : Knowledge) → IsGrown k m → IsFrontOf r k m → spots_of r ≡ [] → takens_of r ≡ [] → tries_of r ≡ 0 → Gains tells r k m
-gains_quiet tells r k m g f spots takens tries = record {
+pub gains_quiet : (tells : Bool) (r : Reply) (k m : Knowledge) → IsGrown k m → IsFrontOf r k m → m.faults ≡ k.faults → spots_of r ≡ [] → takens_of r ≡ [] → tries_of r ≡ 0 → Gains tells r k m
+gains_quiet tells r k m g f same spots takens tries = record {
   front = f.front;
   newest = f.newest;
   base = f.base;
   asked = f.asked;
   mine = f.mine;
   faults = λ t. omega (arith, g.faults, ap length spots);
+  no_other = omega (arith, same);
   failed = λ t test. omega (arith, times_longer test k.failed m.failed g.failed, ap (times test) spots);
   takens = λ test. omega (arith, times_longer test k.takens m.takens g.takens, ap (times test) takens);
   tries = omega (arith, length_longer k.tries m.tries g.tries, tries);
@@ -64,15 +65,19 @@ pub spot_of-file_of : (at : Spot) → spot_of (file_of at) ≡ at
 spot_of-file_of spot.Folder = refl
 spot_of-file_of (spot.File name) = refl
 
+one_at_most : (tells : Bool) (k m : Knowledge) → CountsFault tells k m → m.faults ≤ k.faults + 1
+one_at_most tells k m counts = elim counts [ inl one ↦ omega (arith, one) | inr none ↦ omega (arith, none.1) ]
+
 -- a fault of the store
-pub gains_fault : (tells : Bool) (at : Spot) (k m : Knowledge) → IsGrown k m → FaultCause tells at k m → m.mine ≡ k.mine → Gains tells (reply.Fault (file_of at)) k m
-gains_fault tells at k m g cause mine = record {
+pub gains_fault : (tells : Bool) (at : Spot) (k m : Knowledge) → IsGrown k m → FaultCause tells at k m → CountsFault tells k m → m.mine ≡ k.mine → Gains tells (reply.Fault (file_of at)) k m
+gains_fault tells at k m g cause counts mine = record {
   front = tt;
   newest = tt;
   base = tt;
   asked = omega (arith, g.asks);
   mine = mine ∙ sym (append-nil k.mine);
   faults = λ t. let f = failed_at tells at k m cause t in omega (arith, f.rose);
+  no_other = one_at_most tells k m counts;
   failed = λ t test. let f = failed_at tells at k m cause t in
       let P : Spot → Type 0 = λ s. times test k.failed + times test (s ∷ []) ≤ times test m.failed in
       subst P (sym (spot_of-file_of at)) (times_gained test at k.failed m.failed f.gained f.noted);

@@ -9,3 +9,4 @@ pub mod Wholes
 pub mod Writings
 pub mod Loop
 pub mod Takens
+pub mod Contests

@@ -13,7 +13,7 @@ use Rattle.snapshot_load.specs.declared.answers.Snapshot.{Snapshot}
 use Rattle.snapshot_load.specs.declared.errors.LoadError.{LoadError}
 use Rattle.snapshot_load.specs.declared.errors.LoadError.TheVariants as load
 use Rattle.snapshot_load.specs.Snapshots.{IsSnapshot}
-use Rattle.snapshot_load.specs.Causes.{LoadCause, UnlessMemory}
+use Rattle.snapshot_load.specs.Causes.{LoadCause, UnlessMemory, CountsFaults}
 use Rattle.snapshot_load.specs.Reading.{OnlyLoads, HasAsked}
 use Rattle.snapshot_load.proofs.Keeping.{loads_none}
 use Rattle.session_lines.specs.declared.fault.BadLine.{BadLine}
@@ -50,7 +50,7 @@ right_for tells k x asked e g s o gains =
 
 -- a reply that names no version, where nothing changed
 gains_nothing : (tells : Bool) (r : Reply) (k : Knowledge) → IsFrontOf r k k → spots_of r ≡ [] → takens_of r ≡ [] → tries_of r ≡ 0 → Gains tells r k k
-gains_nothing tells r k f spots takens tries = gains_quiet tells r k k (grows_refl k) f spots takens tries
+gains_nothing tells r k f spots takens tries = gains_quiet tells r k k (grows_refl k) f refl spots takens tries
 
 unread_right : (tells : Bool) (k : Knowledge) (line : Numbered) (first : LineWhy) (number : ℕ) (reading : ℤ) (last : ℕ) → number ≡ line.at → asked_by line ≡ Err first
     → IsRight tells k (moment line (reply.BadLine number first) k reading last)
@@ -127,38 +127,38 @@ only_loads_mine : (n l : ℕ) (k m : Knowledge) → OnlyLoads n l k m → m.mine
 only_loads_mine n l k m o = ap (λ (j : Knowledge). j.mine) o.same ∙ sym (append-nil k.mine)
 
 load_gains : (tells : Bool) (answer : Result Snapshot LoadError) (k m : Knowledge) → IfOk answer (IsSnapshot tells m.seen) → IfErr answer (λ e. LoadCause tells e k m)
-    → UnlessMemory answer (HasAsked k m) → OnlyLoads 1 (length m.seen) k m → IsGrown k m → Gains tells (loaded_reply answer) k m
-load_gains tells (Ok s) k m loaded cause asked turns g = gains_quiet tells (loaded_reply (Ok s)) k m g (record {
+    → UnlessMemory answer (HasAsked k m) → OnlyLoads 1 (length m.seen) k m → IsGrown k m → CountsFaults tells k answer m → Gains tells (loaded_reply answer) k m
+load_gains tells (Ok s) k m loaded cause asked turns g counts = gains_quiet tells (loaded_reply (Ok s)) k m g (record {
   front = record { from = omega (arith, loaded.latest, asked.told, length_grown k m g); to = omega (arith, loaded.latest) };
   newest = loaded.latest;
   base = tt;
   asked = omega (arith, asked.asks);
   mine = only_loads_mine 1 (length m.seen) k m turns;
-}) refl refl refl
-load_gains tells (Err load.NoTable) k m loaded cause asked turns g = gains_quiet tells reply.NoTable k m g (record {
+}) counts refl refl refl
+load_gains tells (Err load.NoTable) k m loaded cause asked turns g counts = gains_quiet tells reply.NoTable k m g (record {
   front = record { from = omega (arith, ap length cause, asked.told, length_grown k m g); to = omega arith };
   newest = sym (ap length cause);
   base = tt;
   asked = omega (arith, asked.asks);
   mine = only_loads_mine 1 (length m.seen) k m turns;
-}) refl refl refl
-load_gains tells (Err (load.AfterLatest version latest)) k m loaded cause asked turns g = absurd cause
-load_gains tells (Err (load.BeforeFirst first latest)) k m loaded cause asked turns g = absurd cause
-load_gains tells (Err (load.Fault at)) k m loaded cause asked turns g = gains_fault tells at k m g cause.0 (ap (λ (j : Knowledge). j.mine) turns.same)
-load_gains tells (Err load.Memory) k m loaded cause asked turns g = gains_quiet tells reply.Memory k m g (record {
+}) counts refl refl refl
+load_gains tells (Err (load.AfterLatest version latest)) k m loaded cause asked turns g counts = absurd cause
+load_gains tells (Err (load.BeforeFirst first latest)) k m loaded cause asked turns g counts = absurd cause
+load_gains tells (Err (load.Fault at)) k m loaded cause asked turns g counts = gains_fault tells at k m g cause.0 counts (ap (λ (j : Knowledge). j.mine) turns.same)
+load_gains tells (Err load.Memory) k m loaded cause asked turns g counts = gains_quiet tells reply.Memory k m g (record {
   front = tt;
   newest = tt;
   base = tt;
   asked = omega (arith, g.asks);
   mine = only_loads_mine 1 (length m.seen) k m turns;
-}) refl refl refl
+}) counts refl refl refl
 
 pub load_right : (tells : Bool) (k m : Knowledge) (answer : Result Snapshot LoadError) (line : Numbered) (reading : ℤ) (last : ℕ)
     → IfOk answer (IsSnapshot tells m.seen) → IfOk answer (λ s. s.version ≡ s.latest) → IfErr answer (λ e. LoadCause tells e k m)
-    → UnlessMemory answer (HasAsked k m) → OnlyLoads 1 (length m.seen) k m → IsGrown k m
+    → UnlessMemory answer (HasAsked k m) → OnlyLoads 1 (length m.seen) k m → IsGrown k m → CountsFaults tells k answer m
     → asked_by line ≡ Ok request.Load → IsRight tells k (moment line (loaded_reply answer) m reading last)
-load_right tells k m answer line reading last loaded newest cause asked turns g e =
+load_right tells k m answer line reading last loaded newest cause asked turns g counts e =
     right_for tells k (moment line (loaded_reply answer) m reading last) (Ok request.Load) e g
     (load_stands tells answer k m loaded newest cause)
     (load_own tells answer k m loaded cause asked turns)
-    (load_gains tells answer k m loaded cause asked turns g)
+    (load_gains tells answer k m loaded cause asked turns g counts)

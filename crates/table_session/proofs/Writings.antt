@@ -15,6 +15,7 @@ use Rattle.writer_txn.specs.declared.errors.WriteError.TheVariants as failed
 use Rattle.writer_txn.specs.Creating.{CreateStands}
 use Rattle.writer_txn.specs.Writing.{WriteStands}
 use Rattle.writer_txn.specs.Moments as now
+use Rattle.writer_txn.specs.Counting.{CountsFaults}
 use Rattle.writer_txn.specs.Moments.{WrittenNow, StopsAt, NamesLatest, HasFailed}
 use Rattle.session_lines.specs.declared.request.Request.TheVariants as request
 use Rattle.session_lines.specs.declared.reply.Reply.{Reply}
@@ -100,28 +101,28 @@ IsAbove (Ok (written.Committed version base time)) = after_base base ≤ version
 IsAbove (Ok (written.Already recorded latest)) = Unit {0}
 IsAbove (Err e) = Unit {0}
 
-pub written_gains : (tells : Bool) (answer : Result Written WriteError) (k m : Knowledge) → IsGrown k m → IsAbove answer → WrittenNow tells answer k m → Gains tells (written_reply answer) k m
-written_gains tells (Ok (written.Committed version base time)) k m g a w = gains_quiet tells (reply.Committed base time version) k m g (record {
+pub written_gains : (tells : Bool) (answer : Result Written WriteError) (k m : Knowledge) → IsGrown k m → IsAbove answer → WrittenNow tells answer k m → CountsFaults tells k answer m → Gains tells (written_reply answer) k m
+written_gains tells (Ok (written.Committed version base time)) k m g a w counts = gains_quiet tells (reply.Committed base time version) k m g (record {
   front = record { from = omega (arith, w.front_is.seen, w.front_is.told, a); to = omega (arith, w.last) };
   newest = w.last;
   base = base_from base k m w.front_is;
   asked = omega (arith, w.front_is.asked);
   mine = w.mine;
-}) refl refl refl
-written_gains tells (Ok (written.Already recorded latest)) k m g a w = gains_quiet tells (reply.Already latest recorded) k m g (latest_front (reply.Already latest recorded) latest k m refl refl refl tt w) refl refl refl
-written_gains tells (Err failed.NoTable) k m g a w = gains_quiet tells reply.NoTable k m g (record {
+}) counts refl refl refl
+written_gains tells (Ok (written.Already recorded latest)) k m g a w counts = gains_quiet tells (reply.Already latest recorded) k m g (latest_front (reply.Already latest recorded) latest k m refl refl refl tt w) counts refl refl refl
+written_gains tells (Err failed.NoTable) k m g a w counts = gains_quiet tells reply.NoTable k m g (record {
   front = record { from = omega (arith, w.front_is.seen, w.front_is.told); to = omega arith };
   newest = sym (ap length w.none);
   base = tt;
   asked = omega (arith, w.front_is.asked);
   mine = w.mine ∙ sym (append-nil k.mine);
-}) refl refl refl
-written_gains tells (Err (failed.Exists latest)) k m g a w = gains_quiet tells (reply.Exists latest) k m g (latest_front (reply.Exists latest) latest k m refl refl refl tt w) refl refl refl
-written_gains tells (Err (failed.Broken base why)) k m g a w = gains_quiet tells (reply.Broken base why) k m g (base_fronts (reply.Broken base why) base k m refl refl refl refl w) refl refl refl
-written_gains tells (Err (failed.Conflict base winner rule key latest)) k m g a w =
+}) counts refl refl refl
+written_gains tells (Err (failed.Exists latest)) k m g a w counts = gains_quiet tells (reply.Exists latest) k m g (latest_front (reply.Exists latest) latest k m refl refl refl tt w) counts refl refl refl
+written_gains tells (Err (failed.Broken base why)) k m g a w counts = gains_quiet tells (reply.Broken base why) k m g (base_fronts (reply.Broken base why) base k m refl refl refl refl w) counts refl refl refl
+written_gains tells (Err (failed.Conflict base winner rule key latest)) k m g a w counts =
     gains_quiet tells (reply.Conflict base key latest rule winner) k m g
-    (latest_front (reply.Conflict base key latest rule winner) latest k m refl refl refl (omega (arith, w.from.front_is.seen, w.from.front_is.told)) w.to) refl refl refl
-written_gains tells (Err (failed.Contended attempts latest)) k m g a w =
+    (latest_front (reply.Conflict base key latest rule winner) latest k m refl refl refl (omega (arith, w.from.front_is.seen, w.from.front_is.told)) w.to) counts refl refl refl
+written_gains tells (Err (failed.Contended attempts latest)) k m g a w counts =
     let f = latest_front (reply.Contended attempts latest) latest k m refl refl refl tt w.to in
     record {
       front = f.front;
@@ -130,14 +131,15 @@ written_gains tells (Err (failed.Contended attempts latest)) k m g a w =
       asked = f.asked;
       mine = f.mine;
       faults = λ t. omega (arith, g.faults);
+      no_other = omega (arith, counts);
       failed = λ t test. omega (arith, times_longer test k.failed m.failed g.failed);
       takens = λ test. omega (arith, times_longer test k.takens m.takens g.takens);
       tries = omega (arith, ap length w.tries.is, length-append k.tries w.tries.rest, w.count);
     }
-written_gains tells (Err (failed.Full latest)) k m g a w = gains_quiet tells (reply.Full latest) k m g (latest_front (reply.Full latest) latest k m refl refl refl tt w.to) refl refl refl
-written_gains tells (Err (failed.TimeEnd base last)) k m g a w = gains_quiet tells (reply.TimeEnd base last) k m g (base_fronts (reply.TimeEnd base last) (Some base) k m refl refl refl refl w) refl refl refl
-written_gains tells (Err (failed.TooLarge base bytes)) k m g a w = gains_quiet tells (reply.TooLarge base bytes) k m g (base_fronts (reply.TooLarge base bytes) base k m refl refl refl refl w.from) refl refl refl
-written_gains tells (Err (failed.Taken base version id)) k m g a w =
+written_gains tells (Err (failed.Full latest)) k m g a w counts = gains_quiet tells (reply.Full latest) k m g (latest_front (reply.Full latest) latest k m refl refl refl tt w.to) counts refl refl refl
+written_gains tells (Err (failed.TimeEnd base last)) k m g a w counts = gains_quiet tells (reply.TimeEnd base last) k m g (base_fronts (reply.TimeEnd base last) (Some base) k m refl refl refl refl w) counts refl refl refl
+written_gains tells (Err (failed.TooLarge base bytes)) k m g a w counts = gains_quiet tells (reply.TooLarge base bytes) k m g (base_fronts (reply.TooLarge base bytes) base k m refl refl refl refl w.from) counts refl refl refl
+written_gains tells (Err (failed.Taken base version id)) k m g a w counts =
     let f = base_fronts (reply.Taken base id version) base k m refl refl refl refl w.from in
     record {
       front = f.front;
@@ -146,18 +148,19 @@ written_gains tells (Err (failed.Taken base version id)) k m g a w =
       asked = f.asked;
       mine = f.mine;
       faults = λ t. omega (arith, g.faults);
+      no_other = omega (arith, counts);
       failed = λ t test. omega (arith, times_longer test k.failed m.failed g.failed);
       takens = λ test. times_gained test (name.Staged version id) k.takens m.takens w.takens w.noted;
       tries = omega (arith, length_longer k.tries m.tries g.tries);
     }
-written_gains tells (Err (failed.Fault at)) k m g a w = gains_fault tells at k m g w.cause w.mine
-written_gains tells (Err failed.Memory) k m g a w = gains_quiet tells reply.Memory k m g (record {
+written_gains tells (Err (failed.Fault at)) k m g a w counts = gains_fault tells at k m g w.cause counts w.mine
+written_gains tells (Err failed.Memory) k m g a w counts = gains_quiet tells reply.Memory k m g (record {
   front = tt;
   newest = tt;
   base = tt;
   asked = omega (arith, g.asks);
   mine = w ∙ sym (append-nil k.mine);
-}) refl refl refl
+}) counts refl refl refl
 
 -- ---- the replies
 
@@ -167,13 +170,13 @@ create_above tells what (Ok (written.Already recorded latest)) reading last log 
 create_above tells what (Err e) reading last log h = tt
 
 pub create_right : (tells : Bool) (k m : Knowledge) (what : Create) (answer : Result Written WriteError) (line : Numbered) (reading : ℤ) (last : ℕ)
-    → CreateStands tells what answer reading last m.seen → WrittenNow tells answer k m → IsGrown k m
+    → CreateStands tells what answer reading last m.seen → WrittenNow tells answer k m → IsGrown k m → CountsFaults tells k answer m
     → asked_by line ≡ Ok (request.Create what) → IsRight tells k (moment line (written_reply answer) m reading last)
-create_right tells k m what answer line reading last stands own g e =
+create_right tells k m what answer line reading last stands own g counts e =
     right_for tells k (moment line (written_reply answer) m reading last) (Ok (request.Create what)) e g
     (told_so (λ a. CreateStands tells what a reading last m.seen) answer stands)
     (told_so (λ a. WrittenNow tells a k m) answer own)
-    (written_gains tells answer k m g (create_above tells what answer reading last m.seen stands) own)
+    (written_gains tells answer k m g (create_above tells what answer reading last m.seen stands) own counts)
 
 write_above : (tells : Bool) (intent : Intent) (answer : Result Written WriteError) (reading : ℤ) (last : ℕ) (log : List Commit) → WriteStands tells intent answer reading last log → IsAbove answer
 write_above tells intent (Ok (written.Committed version None time)) reading last log h = absurd h
@@ -182,10 +185,10 @@ write_above tells intent (Ok (written.Already recorded latest)) reading last log
 write_above tells intent (Err e) reading last log h = tt
 
 pub write_right : (tells : Bool) (k m : Knowledge) (intent : Intent) (answer : Result Written WriteError) (line : Numbered) (reading : ℤ) (last : ℕ)
-    → WriteStands tells intent answer reading last m.seen → WrittenNow tells answer k m → IsGrown k m
+    → WriteStands tells intent answer reading last m.seen → WrittenNow tells answer k m → IsGrown k m → CountsFaults tells k answer m
     → asked_by line ≡ Ok (request.Write intent) → IsRight tells k (moment line (written_reply answer) m reading last)
-write_right tells k m intent answer line reading last stands own g e =
+write_right tells k m intent answer line reading last stands own g counts e =
     right_for tells k (moment line (written_reply answer) m reading last) (Ok (request.Write intent)) e g
     (told_so (λ a. WriteStands tells intent a reading last m.seen) answer stands)
     (told_so (λ a. WrittenNow tells a k m) answer own)
-    (written_gains tells answer k m g (write_above tells intent answer reading last m.seen stands) own)
+    (written_gains tells answer k m g (write_above tells intent answer reading last m.seen stands) own counts)

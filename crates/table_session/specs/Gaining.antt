@@ -33,6 +33,8 @@ pub record Gains (tells : Bool) (r : Reply) (k m : Knowledge) : Type 0 where
   pub mine : m.mine ≡ k.mine ++ versions_of r
   -- what it names was gained in this request, whatever test is put to it; a fault so where contents are told
   pub faults : IsTrue tells → k.faults + length (spots_of r) ≤ m.faults
+  -- no fault in this request but the one that it tells
+  pub no_other : m.faults ≤ k.faults + length (spots_of r)
   pub failed : IsTrue tells → (test : Spot → Bool) → times test k.failed + times test (spots_of r) ≤ times test m.failed
   pub takens : (test : LogName → Bool) → times test k.takens + times test (takens_of r) ≤ times test m.takens
   pub tries : length k.tries + tries_of r ≤ length m.tries

@@ -9,6 +9,7 @@ pub mod Running
 pub mod Told
 pub mod Sessions
 pub mod Over
+pub mod Contests
 pub mod Hearing
 pub mod Speaking
 pub mod Replying

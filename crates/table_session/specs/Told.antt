@@ -22,6 +22,10 @@ abbrev pub total : (Reply → ℕ) → List Moment → ℕ
 total worth [] = 0
 total worth (x ∷ xs) = worth x.reply + total worth xs
 
+-- how many replies are Fault
+abbrev pub faults_in : List Moment → ℕ
+faults_in moments = total (λ r. length (spots_of r)) moments
+
 -- a front is not below `low`, and above it where the reply names a new version; so is the front of a base
 pub record IsFrom (low : ℕ) (r : Reply) : Type 0 where
   pub front : IfSome (front_of r) (λ n. low + length (versions_of r) ≤ n)
@@ -49,7 +53,9 @@ pub record Told (tells : Bool) (k : Knowledge) (moments : List Moment) (m : Know
   -- each front was heard in a catalogue turn of its own
   pub asked : k.asks + total (λ r. one_for (front_of r)) moments ≤ m.asks
   -- where contents are told, each Fault has a fault of its own, at its spot
-  pub faults : IsTrue tells → k.faults + total (λ r. length (spots_of r)) moments ≤ m.faults
+  pub faults : IsTrue tells → k.faults + faults_in moments ≤ m.faults
+  -- and each fault is told by a Fault reply
+  pub no_other : m.faults ≤ k.faults + faults_in moments
   pub failed : IsTrue tells → (test : Spot → Bool) → times test k.failed + total (λ r. times test (spots_of r)) moments ≤ times test m.failed
   -- each Taken has a name of its own that was answered taken
   pub takens : (test : LogName → Bool) → times test k.takens + total (λ r. times test (takens_of r)) moments ≤ times test m.takens

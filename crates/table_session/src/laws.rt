@@ -1,12 +1,13 @@
 //! What the replies of a session say together.
-ghost use Rattle.std.specs.Prelude.{◌≡◌, Bool, ℕ, ℤ, List};
+ghost use Rattle.std.specs.Prelude.{◌≡◌, ◌≤◌, ◌+◌, All, Bool, ℕ, ℤ, List, Some, length};
 ghost use Rattle.lake_io.specs.declared.answers.End.{End};
 ghost use Rattle.table_model.specs.Log.{Commit};
-ghost use Rattle.table_model.specs.Knowledge.{Knowledge, StartsWith};
+ghost use Rattle.table_model.specs.Knowledge.{Knowledge, StartsWith, Terms};
 ghost use Rattle.table_session.specs.Moments.{Moment};
 ghost use Rattle.table_session.specs.Running.{Run};
-ghost use Rattle.table_session.specs.Told.{Told};
+ghost use Rattle.table_session.specs.Told.{Told, versions_in};
 ghost use Rattle.table_session.specs.Over.{IsWhole, ToldOver};
+ghost use Rattle.table_session.specs.Contests.{IsUncontested};
 ghost use Rattle.table_session.specs.Sessions.{Session};
 ghost use Rattle.reconcile.specs.declared.state.State.{State};
 ghost use Rattle.reconcile.specs.Replay.{Log};
@@ -27,6 +28,11 @@ pub fn replies_are_right_of_the_log()
 /// At most one reply of a session was not written whole, and the version that it names is above all that was written.
 pub fn one_reply_at_most_is_not_written()
     ensures { (tells : Bool) (read wrote : List ℕ) (k m : Knowledge) (ended : End) → (s : Session tells read wrote k m ended) → IsWhole s.moments s.said s.unsaid }
+{}
+
+/// Where no try was lost and each new version is the session's own, no reply is Conflict or Contended.
+pub fn replies_where_nobody_else_ratifies_are_uncontested()
+    ensures { (tells : Bool) (k m : Knowledge) (t : Terms) (moments : List Moment) → Run tells k moments m → k.terms ≡ Some t → 1 ≤ t.limits.attempts → m.tries ≡ k.tries → length m.seen ≡ length k.seen + length (versions_in moments) → All (λ x. IsUncontested x.reply) moments }
 {}
 
 /// The text of a Loaded reply is that of the commits: whatever state stands for them gives the same.

@@ -1,3 +1,4 @@
+use Rattle.std.proofs.Common.{arith}
 use Rattle.delta_cli.proofs.Holding.{held_by}
 use Rattle.delta_cli.proofs.running.hold.Goals as goal
 
@@ -10,5 +11,5 @@ returns-clause-run g c =
     g.O.Sink.tells (g.O.Sink.written c.args.sink.now) (g.O.Sink.written c.session-end.new.sink)
     c.session-end.result c.settle-status.result
     c.new-solo.ensures.world c.new-solo.ensures.nothing c.into_world.ensures.world c.requires c.session-end.ensures.session
-    c.session-end.ensures.after c.settle-status.ensures.after c.settle-status.ensures.log c.settle-status.ensures.end c.settle-status.ensures.cause c.settle-status.ensures.settled
+    c.session-end.ensures.after c.settle-status.ensures.after c.settle-status.ensures.log (omega arith) (omega arith) c.settle-status.ensures.end c.settle-status.ensures.cause c.settle-status.ensures.quiet c.settle-status.ensures.settled
     c.into_world.ensures.consistent

@@ -8,15 +8,15 @@ use Rattle.table_session.proofs.answering.fulfil.Goals as goal
 
 pub returns-in-Create-clause-right : goal.returns-in-Create-clause-right
 returns-in-Create-clause-right g c = λ line e.
-    rw c.written.ensures (create_right _ _ _ c.in-Create.what c.create.result line _ _ c.create.ensures.stands c.create.ensures.now c.create.ensures.grows (e ∙ ap Ok c.in-Create.is))
+    rw c.written.ensures (create_right _ _ _ c.in-Create.what c.create.result line _ _ c.create.ensures.stands c.create.ensures.now c.create.ensures.grows c.create.ensures.counts (e ∙ ap Ok c.in-Create.is))
 
 pub returns-in-Write-clause-right : goal.returns-in-Write-clause-right
 returns-in-Write-clause-right g c = λ line e.
-    rw c.written-in-Write.ensures (write_right _ _ _ c.in-Write.intent c.write.result line _ _ c.write.ensures.stands c.write.ensures.now c.write.ensures.grows (e ∙ ap Ok c.in-Write.is))
+    rw c.written-in-Write.ensures (write_right _ _ _ c.in-Write.intent c.write.result line _ _ c.write.ensures.stands c.write.ensures.now c.write.ensures.grows c.write.ensures.counts (e ∙ ap Ok c.in-Write.is))
 
 pub returns-in-Load-clause-right : goal.returns-in-Load-clause-right
 returns-in-Load-clause-right g c = λ line e.
-    rw c.loaded.ensures (load_right _ _ _ c.load.result line _ _ c.load.ensures.loaded c.load.ensures.newest c.load.ensures.cause c.load.ensures.asked c.load.ensures.turns c.load.ensures.grows (e ∙ ap Ok c.in-Load.is))
+    rw c.loaded.ensures (load_right _ _ _ c.load.result line _ _ c.load.ensures.loaded c.load.ensures.newest c.load.ensures.cause c.load.ensures.asked c.load.ensures.turns c.load.ensures.grows c.load.ensures.counts (e ∙ ap Ok c.in-Load.is))
 
 pub returns-in-Create-clause-names : goal.returns-in-Create-clause-names
 returns-in-Create-clause-names g c = λ t. rw c.written.ensures (apart_at _ _ _ _ _ _ _ (takens_written c.create.result) (c.create.ensures.names t))

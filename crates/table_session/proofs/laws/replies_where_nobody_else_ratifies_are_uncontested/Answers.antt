@@ -1,0 +1,5 @@
+use Rattle.table_session.proofs.Contests.{run_uncontested}
+use Rattle.table_session.proofs.laws.replies_where_nobody_else_ratifies_are_uncontested.Goals as goal
+
+pub returns : goal.returns
+returns c = run_uncontested

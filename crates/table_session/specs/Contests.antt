@@ -1,0 +1,22 @@
+-- What no reply tells where nobody else ratifies.
+use Rattle.session_lines.specs.declared.reply.Reply.{Reply}
+use Rattle.session_lines.specs.declared.reply.Reply.TheVariants as reply
+use Rattle.std.specs.Prelude.{⊤}
+
+-- it tells of no version that another ratified between the load of a write and its ratification
+abbrev pub IsUncontested : Reply → Type 0
+IsUncontested (reply.Committed base time version) = ⊤
+IsUncontested (reply.Already latest recorded) = ⊤
+IsUncontested (reply.Loaded latest state time version) = ⊤
+IsUncontested reply.NoTable = ⊤
+IsUncontested (reply.Exists latest) = ⊤
+IsUncontested (reply.Broken base why) = ⊤
+IsUncontested (reply.Conflict base key latest rule winner) = ⊥
+IsUncontested (reply.Contended attempts latest) = ⊥
+IsUncontested (reply.Full latest) = ⊤
+IsUncontested (reply.TimeEnd base last) = ⊤
+IsUncontested (reply.TooLarge base bytes) = ⊤
+IsUncontested (reply.Taken base id version) = ⊤
+IsUncontested (reply.Fault file) = ⊤
+IsUncontested reply.Memory = ⊤
+IsUncontested (reply.BadLine at why) = ⊤
