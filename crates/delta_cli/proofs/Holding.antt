@@ -10,13 +10,14 @@ use Rattle.table_model.specs.World.{WorldData, log_of, commits_from}
 use Rattle.table_model.specs.Consistency.{IsConsistent}
 use Rattle.table_model.specs.Knowledge.{Knowledge, StartsWith, Terms, at_start}
 use Rattle.table_model.specs.Holding.{terms_of, IsLater}
-use Rattle.table_model.specs.Alone.{Alone, HasAll, IsAfter}
+use Rattle.table_model.specs.Alone.{Alone, HasAll, HasPutAll, IsAfter}
 use Rattle.table_model.proofs.Knowing.{length-log_of}
 use Rattle.table_model.proofs.Growing.{starts_refl}
 use Rattle.table_session.proofs.Wholes.{told_over, session_whole}
-use Rattle.table_session.proofs.Contests.{run_uncontested}
+use Rattle.table_session.proofs.Contests.{run_uncontested, run_all_untaken}
 use Rattle.table_world.specs.Worlds.{fresh_world}
 use Rattle.table_world.specs.Starting.{IsFresh}
+use Rattle.table_world.proofs.Fresh.{fresh_put}
 use Rattle.publisher.specs.Worlds.{IsSettled, KeepsLog}
 use Rattle.table_session.specs.Moments.{Moment}
 use Rattle.table_session.specs.Naming.{versions_of}
@@ -138,6 +139,11 @@ held limits files tells w0 w1 w2 k1 k2 fixed reading differ given differ' given'
           (let P : Limits → Type 0 = λ l. 1 ≤ l.attempts in subst P (sym is_limits) least)
           (first.tries start (let P : Limits → Type 0 = λ l. l.versions ≤ l.unpublished in subst P (sym (ap (λ (w : WorldData). w.limits) fresh.is)) roomy))
           (omega (arith, ap length (all.seen ∙ sym log), count));
+      untaken = λ t differs.
+          let begun : HasPutAll (record { world = w0; known = at_start (terms_of w0) }) =
+          subst (λ (w : WorldData). HasPutAll (record { world = w; known = at_start (terms_of w) })) (sym fresh.is) (fresh_put limits files tells (fresh.empty t)) in
+          let puts : HasPutAll (record { world = w1; known = k1 }) = first.puts (ap (λ (w : WorldData). w.tells) fresh.is ∙ t) begun in
+          run_all_untaken tells (at_start (terms_of w2)) k1 there.session.moments differ given given' there.session.run refl puts.taken (there.names differs);
       told = told_over tells (at_start (terms_of w2)) k1 there.session.moments (log_of w2) (subst (λ (log : List Commit). StartsWith log k1.seen) (all.seen ∙ sym log) (starts_refl k1.seen)) there.session.told;
       commits = counts_commits there.wrote there.session.moments there.session.said there.session.unsaid e st (length (log_of w2)) there.session.all
           (session_whole tells there.read there.wrote (at_start (terms_of w2)) k1 e there.session) there.session.wrote_is ends count;

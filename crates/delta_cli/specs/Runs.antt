@@ -12,7 +12,7 @@ use Rattle.table_world.specs.Worlds.{first_log_name}
 use Rattle.publisher.specs.Worlds.{IsSettled}
 use Rattle.table_session.specs.Told.{versions_in, faults_in}
 use Rattle.table_session.specs.Over.{ToldOver}
-use Rattle.table_session.specs.Contests.{IsUncontested}
+use Rattle.table_session.specs.Contests.{IsUncontested, IsUntaken}
 use Rattle.table_session.specs.Sessions.{SessionOf}
 use Rattle.delta_cli.specs.Words.{IsRun}
 use Rattle.delta_cli.specs.Endings.{IsStatusOf, IsCutShort, DrainsWithoutFault}
@@ -57,6 +57,8 @@ pub record HasRun (limits : Limits) (tells : Bool) (files : Files) (fixed : Bool
   pub told : ToldOver tells session.session.moments (log_of world)
   -- nobody else ratifies: no reply is Conflict or Contended
   pub alone : All (λ x. IsUncontested x.reply) session.session.moments
+  -- nobody else stages: where the ids are all told to differ, no reply is Taken
+  pub untaken : IsTrue tells → IsTrue differ' → All (λ x. IsUntaken x.reply) session.session.moments
   -- each commit of the table is that of one Committed reply
   pub commits : CountsCommits (length (versions_in session.session.said)) (length (versions_in session.session.unsaid)) (length (log_of world)) st
   -- by so much had the store's count of faults risen when the session ended; a Fault reply comes only where it rose, and it rose only where

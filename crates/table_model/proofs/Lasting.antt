@@ -1,14 +1,14 @@
 -- What holds after any work of the one caller of a world.
-use Rattle.std.proofs.Common.{◌≡◌, ◌<◌, ◌≤◌, ◌∙◌, inl, inr, length, refl, sym, subst, arith}
+use Rattle.std.proofs.Common.{◌≡◌, ◌<◌, ◌≤◌, ◌∙◌, inl, inr, length, refl, sym, subst, arith, IsTrue}
 use Rattle.commit_catalog.specs.declared.Limits.{Limits}
 use Rattle.table_model.specs.World.{WorldData, log_of}
 use Rattle.table_model.specs.Knowledge.{Knowledge}
-use Rattle.table_model.specs.Alone.{Alone, HasAll, IsAfter}
+use Rattle.table_model.specs.Alone.{Alone, HasAll, HasPutAll, IsAfter}
 use Rattle.table_model.specs.Outcome.{Outcome}
 use Rattle.table_model.proofs.Worlds.{later_refl, later_trans, below_or_above}
 
 pub after_refl : (a : Alone) → IsAfter a a
-after_refl a = record { later = later_refl a.world; all = λ h. h; cause = λ less. absurd (omega arith); faults = omega arith; quiet = λ e. refl; tries = λ h roomy. refl }
+after_refl a = record { later = later_refl a.world; all = λ h. h; cause = λ less. absurd (omega arith); faults = omega arith; quiet = λ e. refl; tries = λ h roomy. refl; puts = λ tells p. p }
 
 pub after_trans : (a b c : Alone) → IsAfter a b → IsAfter b c → IsAfter a c
 after_trans a b c p q = record {
@@ -19,6 +19,7 @@ after_trans a b c p q = record {
     | inr none ↦ (let f = q.cause (omega arith) in let g = p.later.tally in omega arith)
   ];
   faults = omega (arith, p.faults, q.faults);
+  puts = λ tells h. q.puts (p.later.tells ∙ tells) (p.puts tells h);
   tries = λ h roomy. let P : Limits → Type 0 = λ l. l.versions ≤ l.unpublished in q.tries (p.all h) (subst P (sym p.later.limits) roomy) ∙ p.tries h roomy;
   quiet = λ same. q.quiet (omega (arith, same, p.faults, q.faults)) ∙ p.quiet (omega (arith, same, p.faults, q.faults));
 }
@@ -32,5 +33,6 @@ all_after w x k m o h = record {
   mine = let e = o.own in let f = h.mine in omega (arith, e, f);
 }
 
-pub after_outcome : (w x : WorldData) (k m : Knowledge) → Outcome w x k m → IsAfter (record { world = w; known = k }) (record { world = x; known = m })
-after_outcome w x k m o = record { later = o.later; all = all_after w x k m o; cause = λ less. (let f = o.faults in omega arith); faults = o.grown.faults; quiet = o.quiet; tries = λ h roomy. o.untried h.seen roomy }
+pub after_outcome : (w x : WorldData) (k m : Knowledge) → Outcome w x k m → (IsTrue w.tells → HasPutAll (alone w k) → HasPutAll (alone x m))
+    → IsAfter (record { world = w; known = k }) (record { world = x; known = m })
+after_outcome w x k m o puts = record { later = o.later; all = all_after w x k m o; cause = λ less. (let f = o.faults in omega arith); faults = o.grown.faults; quiet = o.quiet; tries = λ h roomy. o.untried h.seen roomy; puts = puts }

@@ -12,3 +12,4 @@ pub mod Changing
 pub mod Ratifying
 pub mod Calls
 pub mod Lasting
+pub mod Putting

@@ -1,8 +1,11 @@
--- Where each new version is the session's own and no try was lost, no reply tells of a conflict, nor that others were first.
-use Rattle.std.proofs.Common.{◌≡◌, ◌≤◌, ◌<◌, ◌+◌, ℕ, ℤ, Bool, List, [], ◌∷◌, ◌++◌, length, sym, ◌∙◌, ap, subst, length-append, arith, Option, Some, None, Result, Ok, Err}
-use Rattle.std.specs.Prelude.{All, IfSome, IsSomeAnd}
-use Rattle.std.proofs.lemmas.List.Elements.{All-nil, All-cons}
+-- Where each new version is the session's own and no try was lost, no reply tells of a conflict, nor that others were first; where each name that
+-- was found taken was put by the caller, and none in this session, no reply tells of a name that was taken.
+use Rattle.std.proofs.Common.{◌≡◌, ◌≤◌, ◌<◌, ◌+◌, ℕ, ℤ, Bool, List, [], ◌∷◌, ◌++◌, length, refl, inl, inr, sym, ◌∙◌, ap, subst, length-append, arith, Option, Some, None, Result, Ok, Err}
+use Rattle.std.specs.Prelude.{All, Contains, IfSome, IsSomeAnd}
+use Rattle.std.proofs.lemmas.List.Elements.{All-nil, All-cons, Contains-append_left, Contains-append_right, Contains-append_cases, Contains-push_cases}
 use Rattle.text_lines.specs.Lines.{Numbered}
+use Rattle.log_names.specs.declared.LogName.{LogName}
+use Rattle.log_names.specs.declared.LogName.TheVariants as name
 use Rattle.table_model.specs.Log.{Commit}
 use Rattle.table_model.specs.Knowledge.{Knowledge, Terms}
 use Rattle.conflict_rules.specs.declared.intent.Intent.{Intent}
@@ -14,6 +17,7 @@ use Rattle.writer_txn.specs.declared.errors.WriteError.{WriteError}
 use Rattle.writer_txn.specs.Creating.{CreateStands}
 use Rattle.writer_txn.specs.Writing.{WriteStands}
 use Rattle.writer_txn.specs.Moments.{WrittenNow}
+use Rattle.writer_txn.specs.Named.{NamesApart}
 use Rattle.session_lines.specs.declared.fault.LineWhy.{LineWhy}
 use Rattle.session_lines.specs.declared.request.Request.{Request}
 use Rattle.session_lines.specs.declared.request.Request.TheVariants as request
@@ -22,14 +26,14 @@ use Rattle.session_lines.specs.declared.reply.Reply.TheVariants as reply
 use Rattle.table_session.specs.Moments.{Moment}
 use Rattle.table_session.specs.Asking.{asked_by}
 use Rattle.table_session.specs.Telling.{refused_as, loaded_as, written_as}
-use Rattle.table_session.specs.Naming.{front_of, versions_of, tries_of}
+use Rattle.table_session.specs.Naming.{front_of, versions_of, takens_of, tries_of}
 use Rattle.table_session.specs.Gaining.{known_length, IsFront, Gains}
 use Rattle.table_session.specs.Standing.{LoadStands, RefusalStands, StandsTo}
 use Rattle.table_session.specs.Owning.{LoadMoment, OwnTo}
 use Rattle.table_session.specs.Running.{IsRight, Run}
-use Rattle.table_session.specs.Told.{versions_in, total}
-use Rattle.table_session.specs.Contests.{IsUncontested}
-use Rattle.table_session.proofs.Chains.{run_total}
+use Rattle.table_session.specs.Told.{versions_in, takens_in, total}
+use Rattle.table_session.specs.Contests.{IsUncontested, IsUntaken}
+use Rattle.table_session.proofs.Chains.{run_grows, run_total}
 use Rattle.table_session.proofs.Lasting.{length_longer}
 
 -- one for each reply of the kind
@@ -326,3 +330,153 @@ run_uncontested tells k m t xs r e least tries own =
     none_contests xs
     (omega (arith, grown, total_versions xs, own))
     (omega (arith, run_contended tells k m t xs e least r, lost, ap length tries))
+
+-- ---- names that were found taken
+
+abbrev IsNoted : Knowledge → Reply → Type 0
+IsNoted m (reply.Committed base time version) = Unit {0}
+IsNoted m (reply.Already latest recorded) = Unit {0}
+IsNoted m (reply.Loaded latest state time version) = Unit {0}
+IsNoted m reply.NoTable = Unit {0}
+IsNoted m (reply.Exists latest) = Unit {0}
+IsNoted m (reply.Broken base why) = Unit {0}
+IsNoted m (reply.Conflict base key latest rule winner) = Unit {0}
+IsNoted m (reply.Contended attempts latest) = Unit {0}
+IsNoted m (reply.Full latest) = Unit {0}
+IsNoted m (reply.TimeEnd base end) = Unit {0}
+IsNoted m (reply.TooLarge base bytes) = Unit {0}
+IsNoted m (reply.Taken base id version) = Contains m.takens (name.Staged version id)
+IsNoted m (reply.Fault file) = Unit {0}
+IsNoted m reply.Memory = Unit {0}
+IsNoted m (reply.BadLine at why) = Unit {0}
+
+refused_noted : (m : Knowledge) (line : Numbered) (first : LineWhy) (r : Reply) → IsSomeAnd (refused_as r) (λ refusal. RefusalStands line first refusal) → IsNoted m r
+refused_noted m line first (reply.Committed base time version) o = tt
+refused_noted m line first (reply.Already latest recorded) o = tt
+refused_noted m line first (reply.Loaded latest state time version) o = tt
+refused_noted m line first reply.NoTable o = tt
+refused_noted m line first (reply.Exists latest) o = tt
+refused_noted m line first (reply.Broken base why) o = tt
+refused_noted m line first (reply.Conflict base key latest rule winner) o = tt
+refused_noted m line first (reply.Contended attempts latest) o = tt
+refused_noted m line first (reply.Full latest) o = tt
+refused_noted m line first (reply.TimeEnd base end) o = tt
+refused_noted m line first (reply.TooLarge base bytes) o = tt
+refused_noted m line first (reply.Taken base id version) o = absurd o
+refused_noted m line first (reply.Fault file) o = tt
+refused_noted m line first reply.Memory o = tt
+refused_noted m line first (reply.BadLine at why) o = tt
+
+loaded_noted : (tells : Bool) (k m : Knowledge) (r : Reply) → IsSomeAnd (loaded_as r) (λ answer. LoadMoment tells answer k m) → IsNoted m r
+loaded_noted tells k m (reply.Committed base time version) o = tt
+loaded_noted tells k m (reply.Already latest recorded) o = tt
+loaded_noted tells k m (reply.Loaded latest state time version) o = tt
+loaded_noted tells k m reply.NoTable o = tt
+loaded_noted tells k m (reply.Exists latest) o = tt
+loaded_noted tells k m (reply.Broken base why) o = tt
+loaded_noted tells k m (reply.Conflict base key latest rule winner) o = tt
+loaded_noted tells k m (reply.Contended attempts latest) o = tt
+loaded_noted tells k m (reply.Full latest) o = tt
+loaded_noted tells k m (reply.TimeEnd base end) o = tt
+loaded_noted tells k m (reply.TooLarge base bytes) o = tt
+loaded_noted tells k m (reply.Taken base id version) o = absurd o
+loaded_noted tells k m (reply.Fault file) o = tt
+loaded_noted tells k m reply.Memory o = tt
+loaded_noted tells k m (reply.BadLine at why) o = tt
+
+written_noted : (tells : Bool) (k m : Knowledge) (r : Reply) → IsSomeAnd (written_as r) (λ answer. WrittenNow tells answer k m) → IsNoted m r
+written_noted tells k m (reply.Committed base time version) o = tt
+written_noted tells k m (reply.Already latest recorded) o = tt
+written_noted tells k m (reply.Loaded latest state time version) o = tt
+written_noted tells k m reply.NoTable o = tt
+written_noted tells k m (reply.Exists latest) o = tt
+written_noted tells k m (reply.Broken base why) o = tt
+written_noted tells k m (reply.Conflict base key latest rule winner) o = tt
+written_noted tells k m (reply.Contended attempts latest) o = tt
+written_noted tells k m (reply.Full latest) o = tt
+written_noted tells k m (reply.TimeEnd base end) o = tt
+written_noted tells k m (reply.TooLarge base bytes) o = tt
+written_noted tells k m (reply.Taken base id version) o =
+    let P : List LogName → Type 0 = λ ns. Contains ns (name.Staged version id) in
+    subst P (sym o.takens.is) (Contains-append_right k.takens o.takens.rest (name.Staged version id) o.noted)
+written_noted tells k m (reply.Fault file) o = tt
+written_noted tells k m reply.Memory o = tt
+written_noted tells k m (reply.BadLine at why) o = tt
+
+noted_to : (tells : Bool) (asked : Result Request LineWhy) (x : Moment) (k : Knowledge) (log : List Commit) → StandsTo tells asked x log → OwnTo tells asked x.reply k x.after → IsNoted x.after x.reply
+noted_to tells (Err first) x k log s o = refused_noted x.after x.line first x.reply s
+noted_to tells (Ok (request.Create what)) x k log s o = written_noted tells k x.after x.reply o
+noted_to tells (Ok (request.Write intent)) x k log s o = written_noted tells k x.after x.reply o
+noted_to tells (Ok request.Load) x k log s o = loaded_noted tells k x.after x.reply o
+
+none_in : (n : LogName) → Contains [] n → ⊥
+none_in n c = omega (arith, c.1)
+
+noted_taken : (m : Knowledge) (r : Reply) (version id : ℕ) → IsNoted m r → Contains (takens_of r) (name.Staged version id) → Contains m.takens (name.Staged version id)
+noted_taken m (reply.Committed base time v) version id h c = absurd (none_in (name.Staged version id) c)
+noted_taken m (reply.Already latest recorded) version id h c = absurd (none_in (name.Staged version id) c)
+noted_taken m (reply.Loaded latest state time v) version id h c = absurd (none_in (name.Staged version id) c)
+noted_taken m reply.NoTable version id h c = absurd (none_in (name.Staged version id) c)
+noted_taken m (reply.Exists latest) version id h c = absurd (none_in (name.Staged version id) c)
+noted_taken m (reply.Broken base why) version id h c = absurd (none_in (name.Staged version id) c)
+noted_taken m (reply.Conflict base key latest rule winner) version id h c = absurd (none_in (name.Staged version id) c)
+noted_taken m (reply.Contended attempts latest) version id h c = absurd (none_in (name.Staged version id) c)
+noted_taken m (reply.Full latest) version id h c = absurd (none_in (name.Staged version id) c)
+noted_taken m (reply.TimeEnd base end) version id h c = absurd (none_in (name.Staged version id) c)
+noted_taken m (reply.TooLarge base bytes) version id h c = absurd (none_in (name.Staged version id) c)
+noted_taken m (reply.Taken base i v) version id h c = elim (Contains-push_cases [] (name.Staged v i) (name.Staged version id) c) [
+  | inl none ↦ absurd (none_in (name.Staged version id) none)
+  | inr same ↦ subst (Contains m.takens) same h
+]
+noted_taken m (reply.Fault file) version id h c = absurd (none_in (name.Staged version id) c)
+noted_taken m reply.Memory version id h c = absurd (none_in (name.Staged version id) c)
+noted_taken m (reply.BadLine at why) version id h c = absurd (none_in (name.Staged version id) c)
+
+run_takens : (tells : Bool) (k m : Knowledge) (xs : List Moment) → Run tells k xs m → (version id : ℕ) → Contains (takens_in xs) (name.Staged version id) → Contains m.takens (name.Staged version id)
+run_takens tells k m [] r version id c = absurd (none_in (name.Staged version id) c)
+run_takens tells k m (x ∷ xs) r version id c = elim (Contains-append_cases (takens_of x.reply) (takens_in xs) (name.Staged version id) c) [
+  | inl here ↦
+      let grown = run_grows tells x.after m xs r.1 in
+      let now = noted_taken x.after x.reply version id (noted_to tells (asked_by x.line) x k x.after.seen r.0.stands r.0.own) here in
+      let P : List LogName → Type 0 = λ ns. Contains ns (name.Staged version id) in
+      subst P (sym grown.takens.is) (Contains-append_left x.after.takens grown.takens.rest (name.Staged version id) now)
+  | inr later ↦ run_takens tells x.after m xs r.1 version id later
+]
+
+is_untaken : (r : Reply) → ((version id : ℕ) → Contains (takens_of r) (name.Staged version id) → ⊥) → IsUntaken r
+is_untaken (reply.Committed base time version) h = tt
+is_untaken (reply.Already latest recorded) h = tt
+is_untaken (reply.Loaded latest state time version) h = tt
+is_untaken reply.NoTable h = tt
+is_untaken (reply.Exists latest) h = tt
+is_untaken (reply.Broken base why) h = tt
+is_untaken (reply.Conflict base key latest rule winner) h = tt
+is_untaken (reply.Contended attempts latest) h = tt
+is_untaken (reply.Full latest) h = tt
+is_untaken (reply.TimeEnd base end) h = tt
+is_untaken (reply.TooLarge base bytes) h = tt
+is_untaken (reply.Taken base id version) h = h version id (0, omega arith, refl)
+is_untaken (reply.Fault file) h = tt
+is_untaken reply.Memory h = tt
+is_untaken (reply.BadLine at why) h = tt
+
+none_untaken : (xs : List Moment) → ((version id : ℕ) → Contains (takens_in xs) (name.Staged version id) → ⊥) → All (λ x. IsUntaken x.reply) xs
+none_untaken [] h = All-nil (λ x. IsUntaken x.reply)
+none_untaken (x ∷ xs) h =
+    All-cons (λ x. IsUntaken x.reply) x xs
+    (is_untaken x.reply (λ version id c. h version id (Contains-append_left (takens_of x.reply) (takens_in xs) (name.Staged version id) c)))
+    (none_untaken xs (λ version id c. h version id (Contains-append_right (takens_of x.reply) (takens_in xs) (name.Staged version id) c)))
+
+pub run_untaken : (tells : Bool) (k m : Knowledge) (xs : List Moment) → Run tells k xs m
+    → ((version id : ℕ) → Contains m.takens (name.Staged version id) → Contains m.put (name.Staged version id))
+    → ((version id : ℕ) → Contains (takens_in xs) (name.Staged version id) → ¬ (Contains m.put (name.Staged version id)))
+    → All (λ x. IsUntaken x.reply) xs
+run_untaken tells k m xs r puts apart = none_untaken xs (λ version id c. apart version id c (puts version id (run_takens tells k m xs r version id c)))
+
+-- the same of a session before which nothing was put, where the ids are all told to differ
+pub run_all_untaken : (tells : Bool) (k m : Knowledge) (xs : List Moment) (differ : Bool) (given given' : List ℕ) → Run tells k xs m → k.put ≡ []
+    → ((version id : ℕ) → Contains m.takens (name.Staged version id) → Contains m.put (name.Staged version id))
+    → NamesApart differ given given' (takens_in xs) k m → All (λ x. IsUntaken x.reply) xs
+run_all_untaken tells k m xs differ given given' r none puts apart =
+    let all : m.put ≡ apart.put.rest = apart.put.is ∙ ap (λ ns. ns ++ apart.put.rest) none in
+    run_untaken tells k m xs r puts (λ version id c put. apart.apart version id c (subst (λ ns. Contains ns (name.Staged version id)) all put))

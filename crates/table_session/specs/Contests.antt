@@ -1,4 +1,4 @@
--- What no reply tells where nobody else ratifies.
+-- What no reply tells where nobody else ratifies, or stages.
 use Rattle.session_lines.specs.declared.reply.Reply.{Reply}
 use Rattle.session_lines.specs.declared.reply.Reply.TheVariants as reply
 use Rattle.std.specs.Prelude.{⊤}
@@ -20,3 +20,21 @@ IsUncontested (reply.Taken base id version) = ⊤
 IsUncontested (reply.Fault file) = ⊤
 IsUncontested reply.Memory = ⊤
 IsUncontested (reply.BadLine at why) = ⊤
+
+-- it tells of no file that stood under the name of a commit that was to be staged
+abbrev pub IsUntaken : Reply → Type 0
+IsUntaken (reply.Committed base time version) = ⊤
+IsUntaken (reply.Already latest recorded) = ⊤
+IsUntaken (reply.Loaded latest state time version) = ⊤
+IsUntaken reply.NoTable = ⊤
+IsUntaken (reply.Exists latest) = ⊤
+IsUntaken (reply.Broken base why) = ⊤
+IsUntaken (reply.Conflict base key latest rule winner) = ⊤
+IsUntaken (reply.Contended attempts latest) = ⊤
+IsUntaken (reply.Full latest) = ⊤
+IsUntaken (reply.TimeEnd base last) = ⊤
+IsUntaken (reply.TooLarge base bytes) = ⊤
+IsUntaken (reply.Taken base id version) = ⊥
+IsUntaken (reply.Fault file) = ⊤
+IsUntaken reply.Memory = ⊤
+IsUntaken (reply.BadLine at why) = ⊤

@@ -1,13 +1,14 @@
 //! What the replies of a session say together.
-ghost use Rattle.std.specs.Prelude.{◌≡◌, ◌≤◌, ◌+◌, All, Bool, ℕ, ℤ, List, Some, length};
+ghost use Rattle.std.specs.Prelude.{◌≡◌, ◌≤◌, ◌+◌, All, Bool, Contains, ℕ, ℤ, List, Some, length};
 ghost use Rattle.lake_io.specs.declared.answers.End.{End};
+ghost use Rattle.log_names.specs.declared.LogName.TheVariants as name;
 ghost use Rattle.table_model.specs.Log.{Commit};
 ghost use Rattle.table_model.specs.Knowledge.{Knowledge, StartsWith, Terms};
 ghost use Rattle.table_session.specs.Moments.{Moment};
 ghost use Rattle.table_session.specs.Running.{Run};
-ghost use Rattle.table_session.specs.Told.{Told, versions_in};
+ghost use Rattle.table_session.specs.Told.{Told, takens_in, versions_in};
 ghost use Rattle.table_session.specs.Over.{IsWhole, ToldOver};
-ghost use Rattle.table_session.specs.Contests.{IsUncontested};
+ghost use Rattle.table_session.specs.Contests.{IsUncontested, IsUntaken};
 ghost use Rattle.table_session.specs.Sessions.{Session};
 ghost use Rattle.reconcile.specs.declared.state.State.{State};
 ghost use Rattle.reconcile.specs.Replay.{Log};
@@ -33,6 +34,11 @@ pub fn one_reply_at_most_is_not_written()
 /// Where no try was lost and each new version is the session's own, no reply is Conflict or Contended.
 pub fn replies_where_nobody_else_ratifies_are_uncontested()
     ensures { (tells : Bool) (k m : Knowledge) (t : Terms) (moments : List Moment) → Run tells k moments m → k.terms ≡ Some t → 1 ≤ t.limits.attempts → m.tries ≡ k.tries → length m.seen ≡ length k.seen + length (versions_in moments) → All (λ x. IsUncontested x.reply) moments }
+{}
+
+/// Where each name that was found taken is one that the caller put, and none that it put in the session, no reply is Taken.
+pub fn replies_where_nobody_else_stages_are_untaken()
+    ensures { (tells : Bool) (k m : Knowledge) (moments : List Moment) → Run tells k moments m → ((version id : ℕ) → Contains m.takens (name.Staged version id) → Contains m.put (name.Staged version id)) → ((version id : ℕ) → Contains (takens_in moments) (name.Staged version id) → ¬ (Contains m.put (name.Staged version id))) → All (λ x. IsUntaken x.reply) moments }
 {}
 
 /// The text of a Loaded reply is that of the commits: whatever state stands for them gives the same.

@@ -3,7 +3,7 @@ use Rattle.std.proofs.Common.{◌≡◌, ◌≢◌, ◌<◌, ◌≤◌, inl, inr
 use Rattle.std.specs.Prelude.{find, is_some}
 use Rattle.log_names.specs.declared.LogName.{LogName}
 use Rattle.log_names.specs.declared.LogName.TheVariants as name
-use Rattle.log_names.specs.Texts.{name_text, published_text, checkpoint_text}
+use Rattle.log_names.specs.Texts.{name_text, published_text, staged_text, checkpoint_text}
 use Rattle.log_names.specs.Reading.{name_of}
 use Rattle.commit_catalog.specs.declared.Limits.{Limits}
 use Rattle.commit_catalog.specs.Records.{AreLimits}
@@ -11,6 +11,9 @@ use Rattle.object_store.specs.Files.{Files, names_of}
 use Rattle.table_model.specs.Files.{stands_at}
 use Rattle.table_model.specs.World.{WorldData, log_of, commits_from}
 use Rattle.table_model.specs.Log.{IsSound}
+use Rattle.table_model.specs.Knowledge.{at_start}
+use Rattle.table_model.specs.Holding.{terms_of}
+use Rattle.table_model.specs.Alone.{HasPutAll}
 use Rattle.table_model.specs.Consistency.{IsSized, IsFiled, IsConsistent}
 use Rattle.table_model.specs.Turns.{is_log_name, listing}
 use Rattle.table_model.proofs.Sound.{sound-nil}
@@ -85,3 +88,13 @@ log_name_short text differ = elim (name_of-meaning text) [
 
 pub same_count : (count first : ℕ) → first ≡ count → first ≤ count
 same_count count first e = omega arith
+
+-- nothing was put, and nothing stands
+pub fresh_put : (limits : Limits) (files : Files) (tells : Bool) → first_log_name (names_of files) ≡ None
+    → HasPutAll (record { world = fresh_world limits files tells; known = at_start (terms_of (fresh_world limits files tells)) })
+fresh_put limits files tells none = record {
+  staged = λ version id there. absurd (nothing_stands files (name.Staged version id) (staged_text version id) none refl refl there);
+  known = λ version id text c. absurd (omega (arith, c.1));
+  ratified = λ version less. absurd (omega (arith, less));
+  taken = λ version id c. absurd (omega (arith, c.1));
+}

@@ -52,7 +52,8 @@ use Rattle.table_model.proofs.Knowing.{length-log_of, valid_of}
 use Rattle.table_world.specs.declared.notes.Notes.{Notes}
 use Rattle.table_world.specs.Noted.{noted, known_with, known_of}
 use Rattle.table_world.specs.Noting.{answer_noted, is_seen_name, published_gone, get_noted, list_noted, ratify_noted, tried}
-use Rattle.table_model.specs.Alone.{Alone, HasAll, IsAfter}
+use Rattle.table_model.specs.Alone.{Alone, HasAll, HasPutAll, IsAfter}
+use Rattle.table_model.proofs.Putting.{puts-commits, puts-list, puts-get, puts-stage, puts-ratify, puts-publish, puts-report, puts-clear}
 use Rattle.table_model.proofs.Lasting.{after_outcome}
 
 abbrev alone : WorldData → Knowledge → Alone
@@ -65,17 +66,17 @@ pub record IsDone (w x : WorldData) (k m : Knowledge) : Type 0 where
   pub holds : HoldsIn x m
   pub after : IsAfter (alone w k) (alone x m)
 
-done_with : (w x : WorldData) (k m : Knowledge) → Outcome w x k m → IsDone w x k m
-done_with w x k m o = record {
+done_with : (w x : WorldData) (k m : Knowledge) → Outcome w x k m → (IsTrue w.tells → HasPutAll (alone w k) → HasPutAll (alone x m)) → IsDone w x k m
+done_with w x k m o puts = record {
   grows = o.grown;
   valid = valid_of x m o.consistent o.holds;
   holds = o.holds;
-  after = after_outcome w x k m o;
+  after = after_outcome w x k m o puts;
 }
 
 -- the same, of an equal knowledge
-pub done_as : (w x : WorldData) (k m now : Knowledge) → Outcome w x k m → now ≡ m → IsDone w x k now
-done_as w x k m now o e = let P : Knowledge → Type 0 = λ n. IsDone w x k n in subst P (sym e) (done_with w x k m o)
+pub done_as : (w x : WorldData) (k m now : Knowledge) → Outcome w x k m → (IsTrue w.tells → HasPutAll (alone w k) → HasPutAll (alone x m)) → now ≡ m → IsDone w x k now
+done_as w x k m now o puts e = let P : Knowledge → Type 0 = λ n. IsDone w x k n in subst P (sym e) (done_with w x k m o puts)
 
 -- the front of the log that was seen stays
 pub same_front : (w x : WorldData) (seen : ℕ) → IsLater w x → seen ≤ length w.records → take seen (log_of x) ≡ take seen (log_of w)
@@ -148,10 +149,11 @@ ratify_noted_learned version count (ratify.Backlog latest reported) k seen w x l
 
 -- one turn, all of it
 
-has_done : (turn learns : Type 0) (w x : WorldData) (n m : Notes) (k : Knowledge) → turn → learns → Outcome w x (known_of w n) k → known_of x m ≡ k → m.seen ≤ length x.records
+has_done : (turn learns : Type 0) (w x : WorldData) (n m : Notes) (k : Knowledge) → turn → learns → Outcome w x (known_of w n) k → (IsTrue w.tells → HasPutAll (alone w (known_of w n)) → HasPutAll (alone x k))
+    → known_of x m ≡ k → m.seen ≤ length x.records
     → HasDone turn learns w n x m
-has_done turn learns w x n m k t l o e le =
-    let d : IsDone w x (known_of w n) (known_of x m) = done_as w x (known_of w n) k (known_of x m) o e in
+has_done turn learns w x n m k t l o puts e le =
+    let d : IsDone w x (known_of w n) (known_of x m) = done_as w x (known_of w n) k (known_of x m) o puts e in
     record {
       turned = t;
       learnt = l;
@@ -169,7 +171,7 @@ pub refused : (turn learns : Type 0) (w : WorldData) (n m : Notes) → IsKnownIn
     → HasDone turn learns w n w m
 refused turn learns w n m h t l e f =
     let same : known_of w m ≡ known_of w n = known_now m (noted n) w w n.seen e f (later_refl w) h.seen in
-    has_done turn learns w w n m (known_of w n) t (l same) (outcome-refused w (known_of w n) h.consistent h.holds) same (seen_later w w n m h (later_refl w) f)
+    has_done turn learns w w n m (known_of w n) t (l same) (outcome-refused w (known_of w n) h.consistent h.holds) (λ tells p. p) same (seen_later w w n m h (later_refl w) f)
 
 -- a turn with an answer
 
@@ -184,7 +186,7 @@ commits_done w x n m c h t e f =
     let o = outcome-commits w x (known_of w n) (Ok c) h.consistent h.holds t in
     let count : c.count ≡ length x.records = t.0.count ∙ ap (λ (y : WorldData). length y.records) (sym t.1) in
     let is : known_of x m ≡ commits_learned (known_of w n) (Ok c) x = known_whole m _ w x c.count e f o.later count in
-    has_done _ _ w x n m _ t (moved_learns (LearnsCommits w.tells (known_of w n) (Ok c)) _ _ is (learns-commits w x (known_of w n) (Ok c) h.consistent h.holds t)) o is (omega (arith, f, count))
+    has_done _ _ w x n m _ t (moved_learns (LearnsCommits w.tells (known_of w n) (Ok c)) _ _ is (learns-commits w x (known_of w n) (Ok c) h.consistent h.holds t)) o (λ tells p. puts-commits w x (known_of w n) c t p) is (omega (arith, f, count))
 
 list_moved : (k : Knowledge) (seen : ℕ) (w : WorldData) (r : Result (Vec LogName Global) StepFault) → known_with (list_learned k r) seen w ≡ list_learned (known_with k seen w) r
 list_moved k seen w (Ok names) = refl
@@ -197,7 +199,7 @@ pub list_done : (w x : WorldData) (n m : Notes) (r : Result (Vec LogName Global)
 list_done w x n m r h t e f =
     let o = outcome-list w x (known_of w n) r h.consistent h.holds t in
     let is : known_of x m ≡ list_learned (known_of w n) r = known_now m _ w x n.seen e f o.later h.seen ∙ list_moved (noted n) n.seen w r in
-    has_done _ _ w x n m _ t (moved_learns (LearnsList w.tells (known_of w n) r) _ _ is (learns-list w x (known_of w n) r h.consistent h.holds t)) o is (seen_later w x n m h o.later f)
+    has_done _ _ w x n m _ t (moved_learns (LearnsList w.tells (known_of w n) r) _ _ is (learns-list w x (known_of w n) r h.consistent h.holds t)) o (λ tells p. puts-list w x (known_of w n) r t p) is (seen_later w x n m h o.later f)
 
 get_moved : (name : LogName) (k : Knowledge) (seen : ℕ) (w : WorldData) (r : Result Bytes StepFault) (is : Bool) → is ≡ is_seen_name name (take seen (log_of w))
     → known_with (answer_noted name r is k) seen w ≡ get_learned name (known_with k seen w) r
@@ -211,7 +213,7 @@ pub get_done : (name : LogName) (w x : WorldData) (n m : Notes) (r : Result Byte
 get_done name w x n m r is h t test e f =
     let o = outcome-get name w x (known_of w n) r h.consistent h.holds t in
     let same : known_of x m ≡ get_learned name (known_of w n) r = known_now m _ w x n.seen e f o.later h.seen ∙ get_moved name (noted n) n.seen w r is test in
-    has_done _ _ w x n m _ t (moved_learns (LearnsGet w.tells name (known_of w n) r) _ _ same (learns-get name w x (known_of w n) r h.consistent h.holds t)) o same (seen_later w x n m h o.later f)
+    has_done _ _ w x n m _ t (moved_learns (LearnsGet w.tells name (known_of w n) r) _ _ same (learns-get name w x (known_of w n) r h.consistent h.holds t)) o (λ tells p. puts-get name w x (known_of w n) r tells t p) same (seen_later w x n m h o.later f)
 
 stage_moved : (version id : ℕ) (text : List ℕ) (k : Knowledge) (seen : ℕ) (w : WorldData) (r : Result Staged StepFault)
     → known_with (stage_learned version id text k r) seen w ≡ stage_learned version id text (known_with k seen w) r
@@ -226,7 +228,7 @@ pub stage_done : (version id : ℕ) (text : List ℕ) (w x : WorldData) (n m : N
 stage_done version id text w x n m r h small tiny t e f =
     let o = outcome-stage version id text w x (known_of w n) r h.consistent h.holds small tiny t in
     let is : known_of x m ≡ stage_learned version id text (known_of w n) r = known_now m _ w x n.seen e f o.later h.seen ∙ stage_moved version id text (noted n) n.seen w r in
-    has_done _ _ w x n m _ t (moved_learns (LearnsStage version id text (known_of w n) r) _ _ is (learns-stage version id text w x (known_of w n) r t)) o is (seen_later w x n m h o.later f)
+    has_done _ _ w x n m _ t (moved_learns (LearnsStage version id text (known_of w n) r) _ _ is (learns-stage version id text w x (known_of w n) r t)) o (λ tells p. puts-stage version id text w x (known_of w n) r tells small tiny t p) is (seen_later w x n m h o.later f)
 
 pub ratify_done : (version id : ℕ) (time : ℤ) (w x : WorldData) (n m : Notes) (a : Ratify) → IsKnownIn w n → MayRatify w.tells (known_of w n) version id time
     → RatifyTurn version id time w (Ok a) x → noted m ≡ ratify_noted version n.seen a (noted n) → m.seen ≡ length x.records
@@ -235,7 +237,7 @@ ratify_done version id time w x n m a h may t e f =
     let o = outcome-ratify version id time w x (known_of w n) (Ok a) h.consistent h.holds may t in
     let is : known_of x m ≡ ratify_learned version (known_of w n) (Ok a) x =
     known_whole m _ w x (length x.records) e f o.later refl ∙ ratify_noted_learned version 0 a (noted n) n.seen w x h.seen in
-    has_done _ _ w x n m _ t (moved_learns (LearnsRatify w.tells version id (known_of w n) (Ok a)) _ _ is (learns-ratify version id time w x (known_of w n) (Ok a) h.consistent h.holds may t)) o is (omega (arith, f))
+    has_done _ _ w x n m _ t (moved_learns (LearnsRatify w.tells version id (known_of w n) (Ok a)) _ _ is (learns-ratify version id time w x (known_of w n) (Ok a) h.consistent h.holds may t)) o (λ tells p. puts-ratify version id time w x (known_of w n) a h.holds may t p) is (omega (arith, f))
 
 publish_moved : (version : ℕ) (k : Knowledge) (seen : ℕ) (w : WorldData) (r : Result Put StepFault) → known_with (publish_learned version k r) seen w ≡ publish_learned version (known_with k seen w) r
 publish_moved version k seen w (Ok a) = refl
@@ -248,7 +250,7 @@ pub publish_done : (version : ℕ) (text : List ℕ) (w x : WorldData) (n m : No
 publish_done version text w x n m r h small may t e f =
     let o = outcome-publish version text w x (known_of w n) r h.consistent h.holds small may t in
     let is : known_of x m ≡ publish_learned version (known_of w n) r = known_now m _ w x n.seen e f o.later h.seen ∙ publish_moved version (noted n) n.seen w r in
-    has_done _ _ w x n m _ t (moved_learns (LearnsPublish version (known_of w n) r) _ _ is (learns-publish version text w x (known_of w n) r t)) o is (seen_later w x n m h o.later f)
+    has_done _ _ w x n m _ t (moved_learns (LearnsPublish version (known_of w n) r) _ _ is (learns-publish version text w x (known_of w n) r t)) o (λ tells p. puts-publish version text w x (known_of w n) r tells small t p) is (seen_later w x n m h o.later f)
 
 pub report_done : (count : ℕ) (w x : WorldData) (n m : Notes) (answer : ℕ) → IsKnownIn w n → MayReport (known_of w n) count
     → ReportTurn count w (Ok answer) x → noted m ≡ record (noted n) { published = max (noted n).published answer; reported = answer } → m.seen ≡ n.seen
@@ -256,7 +258,7 @@ pub report_done : (count : ℕ) (w x : WorldData) (n m : Notes) (answer : ℕ) �
 report_done count w x n m answer h may t e f =
     let o = outcome-report count w x (known_of w n) (Ok answer) h.consistent h.holds may t in
     let is : known_of x m ≡ report_learned (known_of w n) (Ok answer) = known_now m _ w x n.seen e f o.later h.seen in
-    has_done _ _ w x n m _ t (moved_learns (LearnsReport count (known_of w n) (Ok answer)) _ _ is (learns-report count w x (known_of w n) (Ok answer) h.holds t)) o is (seen_later w x n m h o.later f)
+    has_done _ _ w x n m _ t (moved_learns (LearnsReport count (known_of w n) (Ok answer)) _ _ is (learns-report count w x (known_of w n) (Ok answer) h.holds t)) o (λ tells p. puts-report count w x (known_of w n) answer t p) is (seen_later w x n m h o.later f)
 
 clear_moved : (version id : ℕ) (k : Knowledge) (seen : ℕ) (w : WorldData) (r : Result Gone StepFault) → known_with (clear_learned version id k r) seen w ≡ clear_learned version id (known_with k seen w) r
 clear_moved version id k seen w (Ok a) = refl
@@ -269,7 +271,7 @@ pub clear_done : (version id : ℕ) (w x : WorldData) (n m : Notes) (r : Result 
 clear_done version id w x n m r h small tiny may t e f =
     let o = outcome-clear version id w x (known_of w n) r h.consistent h.holds small tiny may t in
     let is : known_of x m ≡ clear_learned version id (known_of w n) r = known_now m _ w x n.seen e f o.later h.seen ∙ clear_moved version id (noted n) n.seen w r in
-    has_done _ _ w x n m _ t (moved_learns (LearnsClear version id (known_of w n) r) _ _ is (learns-clear version id w x (known_of w n) r t)) o is (seen_later w x n m h o.later f)
+    has_done _ _ w x n m _ t (moved_learns (LearnsClear version id (known_of w n) r) _ _ is (learns-clear version id w x (known_of w n) r t)) o (λ tells p. puts-clear version id w x (known_of w n) r tells small tiny t p) is (seen_later w x n m h o.later f)
 
 -- a turn that left the world as it was, and nothing noted
 pub refused_same : (w x : WorldData) (n m : Notes) → IsKnownIn w n → x ≡ w → noted m ≡ noted n → m.seen ≡ n.seen
