@@ -1,4 +1,4 @@
--- The text of a script: lines that a session reads, each ended by LF.
+-- The text of a script: request lines, each ended by LF. A session does not read every request of a script yet.
 use Rattle.std.specs.Prelude.{ℕ, List, ◌++◌, codes, decimal}
 use Rattle.std.specs.List.{flat_map}
 use Rattle.table_maker.specs.Requests.{requests}
