@@ -143,7 +143,7 @@ held limits files tells w0 w1 w2 k1 k2 fixed reading differ given differ' given'
           let begun : HasPutAll (record { world = w0; known = at_start (terms_of w0) }) =
           subst (λ (w : WorldData). HasPutAll (record { world = w; known = at_start (terms_of w) })) (sym fresh.is) (fresh_put limits files tells (fresh.empty t)) in
           let puts : HasPutAll (record { world = w1; known = k1 }) = first.puts (ap (λ (w : WorldData). w.tells) fresh.is ∙ t) begun in
-          run_all_untaken tells (at_start (terms_of w2)) k1 there.session.moments differ given given' there.session.run refl puts.taken (there.names differs);
+          run_all_untaken tells (at_start (terms_of w2)) k1 (terms_of w2) there.session.moments differ given given' there.session.run refl refl puts.taken (there.names differs);
       told = told_over tells (at_start (terms_of w2)) k1 there.session.moments (log_of w2) (subst (λ (log : List Commit). StartsWith log k1.seen) (all.seen ∙ sym log) (starts_refl k1.seen)) there.session.told;
       commits = counts_commits there.wrote there.session.moments there.session.said there.session.unsaid e st (length (log_of w2)) there.session.all
           (session_whole tells there.read there.wrote (at_start (terms_of w2)) k1 e there.session) there.session.wrote_is ends count;

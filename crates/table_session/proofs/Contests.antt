@@ -16,7 +16,7 @@ use Rattle.writer_txn.specs.declared.answers.Written.{Written}
 use Rattle.writer_txn.specs.declared.errors.WriteError.{WriteError}
 use Rattle.writer_txn.specs.Creating.{CreateStands}
 use Rattle.writer_txn.specs.Writing.{WriteStands}
-use Rattle.writer_txn.specs.Moments.{WrittenNow}
+use Rattle.writer_txn.specs.Moments.{WrittenNow, IsTaken}
 use Rattle.writer_txn.specs.Named.{NamesApart}
 use Rattle.session_lines.specs.declared.fault.LineWhy.{LineWhy}
 use Rattle.session_lines.specs.declared.request.Request.{Request}
@@ -29,7 +29,7 @@ use Rattle.table_session.specs.Telling.{refused_as, loaded_as, written_as}
 use Rattle.table_session.specs.Naming.{front_of, versions_of, takens_of, tries_of}
 use Rattle.table_session.specs.Gaining.{known_length, IsFront, Gains}
 use Rattle.table_session.specs.Standing.{LoadStands, RefusalStands, StandsTo}
-use Rattle.table_session.specs.Owning.{LoadMoment, OwnTo}
+use Rattle.table_session.specs.Owning.{OwnTo}
 use Rattle.table_session.specs.Running.{IsRight, Run}
 use Rattle.table_session.specs.Told.{versions_in, takens_in, total}
 use Rattle.table_session.specs.Contests.{IsUncontested, IsUntaken}
@@ -71,226 +71,164 @@ contended_of (reply.Fault file) = 0
 contended_of reply.Memory = 0
 contended_of (reply.BadLine at why) = 0
 
--- ---- a conflict is with a version above the base
+-- ---- what a reply that tells of others says of its moment: `attempts` is the limit, m is known after it
 
-abbrev IsAboveBase : Reply → Type 0
-IsAboveBase (reply.Committed base time version) = Unit {0}
-IsAboveBase (reply.Already latest recorded) = Unit {0}
-IsAboveBase (reply.Loaded latest state time version) = Unit {0}
-IsAboveBase reply.NoTable = Unit {0}
-IsAboveBase (reply.Exists latest) = Unit {0}
-IsAboveBase (reply.Broken base why) = Unit {0}
-IsAboveBase (reply.Conflict base key latest rule winner) = base < latest
-IsAboveBase (reply.Contended attempts latest) = Unit {0}
-IsAboveBase (reply.Full latest) = Unit {0}
-IsAboveBase (reply.TimeEnd base last) = Unit {0}
-IsAboveBase (reply.TooLarge base bytes) = Unit {0}
-IsAboveBase (reply.Taken base id version) = Unit {0}
-IsAboveBase (reply.Fault file) = Unit {0}
-IsAboveBase reply.Memory = Unit {0}
-IsAboveBase (reply.BadLine at why) = Unit {0}
+abbrev TellsOfOthers : ℕ → Knowledge → Reply → Type 0
+TellsOfOthers attempts m (reply.Committed base time version) = Unit {0}
+TellsOfOthers attempts m (reply.Already latest recorded) = Unit {0}
+TellsOfOthers attempts m (reply.Loaded latest state time version) = Unit {0}
+TellsOfOthers attempts m reply.NoTable = Unit {0}
+TellsOfOthers attempts m (reply.Exists latest) = Unit {0}
+TellsOfOthers attempts m (reply.Broken base why) = Unit {0}
+TellsOfOthers attempts m (reply.Conflict base key latest rule winner) = base < latest
+TellsOfOthers attempts m (reply.Contended tried latest) = tried ≡ attempts
+TellsOfOthers attempts m (reply.Full latest) = Unit {0}
+TellsOfOthers attempts m (reply.TimeEnd base end) = Unit {0}
+TellsOfOthers attempts m (reply.TooLarge base bytes) = Unit {0}
+TellsOfOthers attempts m (reply.Taken base id version) = Contains m.takens (name.Staged version id)
+TellsOfOthers attempts m (reply.Fault file) = Unit {0}
+TellsOfOthers attempts m reply.Memory = Unit {0}
+TellsOfOthers attempts m (reply.BadLine at why) = Unit {0}
 
-refused_above : (line : Numbered) (first : LineWhy) (r : Reply) → IsSomeAnd (refused_as r) (λ refusal. RefusalStands line first refusal) → IsAboveBase r
-refused_above line first (reply.Committed base time version) s = tt
-refused_above line first (reply.Already latest recorded) s = tt
-refused_above line first (reply.Loaded latest state time version) s = tt
-refused_above line first reply.NoTable s = tt
-refused_above line first (reply.Exists latest) s = tt
-refused_above line first (reply.Broken base why) s = tt
-refused_above line first (reply.Conflict base key latest rule winner) s = absurd s
-refused_above line first (reply.Contended attempts latest) s = tt
-refused_above line first (reply.Full latest) s = tt
-refused_above line first (reply.TimeEnd base last) s = tt
-refused_above line first (reply.TooLarge base bytes) s = tt
-refused_above line first (reply.Taken base id version) s = tt
-refused_above line first (reply.Fault file) s = tt
-refused_above line first reply.Memory s = tt
-refused_above line first (reply.BadLine at why) s = tt
+refused_tells : (attempts : ℕ) (m : Knowledge) (line : Numbered) (first : LineWhy) (r : Reply) → IsSomeAnd (refused_as r) (λ refusal. RefusalStands line first refusal) → TellsOfOthers attempts m r
+refused_tells attempts m line first (reply.Committed base time version) s = tt
+refused_tells attempts m line first (reply.Already latest recorded) s = tt
+refused_tells attempts m line first (reply.Loaded latest state time version) s = tt
+refused_tells attempts m line first reply.NoTable s = tt
+refused_tells attempts m line first (reply.Exists latest) s = tt
+refused_tells attempts m line first (reply.Broken base why) s = tt
+refused_tells attempts m line first (reply.Conflict base key latest rule winner) s = absurd s
+refused_tells attempts m line first (reply.Contended tried latest) s = absurd s
+refused_tells attempts m line first (reply.Full latest) s = tt
+refused_tells attempts m line first (reply.TimeEnd base end) s = tt
+refused_tells attempts m line first (reply.TooLarge base bytes) s = tt
+refused_tells attempts m line first (reply.Taken base id version) s = absurd s
+refused_tells attempts m line first (reply.Fault file) s = tt
+refused_tells attempts m line first reply.Memory s = tt
+refused_tells attempts m line first (reply.BadLine at why) s = tt
 
-loaded_above : (tells : Bool) (log : List Commit) (r : Reply) → IsSomeAnd (loaded_as r) (λ answer. LoadStands tells answer log) → IsAboveBase r
-loaded_above tells log (reply.Committed base time version) s = tt
-loaded_above tells log (reply.Already latest recorded) s = tt
-loaded_above tells log (reply.Loaded latest state time version) s = tt
-loaded_above tells log reply.NoTable s = tt
-loaded_above tells log (reply.Exists latest) s = tt
-loaded_above tells log (reply.Broken base why) s = tt
-loaded_above tells log (reply.Conflict base key latest rule winner) s = absurd s
-loaded_above tells log (reply.Contended attempts latest) s = tt
-loaded_above tells log (reply.Full latest) s = tt
-loaded_above tells log (reply.TimeEnd base last) s = tt
-loaded_above tells log (reply.TooLarge base bytes) s = tt
-loaded_above tells log (reply.Taken base id version) s = tt
-loaded_above tells log (reply.Fault file) s = tt
-loaded_above tells log reply.Memory s = tt
-loaded_above tells log (reply.BadLine at why) s = tt
+loaded_tells : (tells : Bool) (attempts : ℕ) (m : Knowledge) (log : List Commit) (r : Reply) → IsSomeAnd (loaded_as r) (λ answer. LoadStands tells answer log) → TellsOfOthers attempts m r
+loaded_tells tells attempts m log (reply.Committed base time version) s = tt
+loaded_tells tells attempts m log (reply.Already latest recorded) s = tt
+loaded_tells tells attempts m log (reply.Loaded latest state time version) s = tt
+loaded_tells tells attempts m log reply.NoTable s = tt
+loaded_tells tells attempts m log (reply.Exists latest) s = tt
+loaded_tells tells attempts m log (reply.Broken base why) s = tt
+loaded_tells tells attempts m log (reply.Conflict base key latest rule winner) s = absurd s
+loaded_tells tells attempts m log (reply.Contended tried latest) s = absurd s
+loaded_tells tells attempts m log (reply.Full latest) s = tt
+loaded_tells tells attempts m log (reply.TimeEnd base end) s = tt
+loaded_tells tells attempts m log (reply.TooLarge base bytes) s = tt
+loaded_tells tells attempts m log (reply.Taken base id version) s = absurd s
+loaded_tells tells attempts m log (reply.Fault file) s = tt
+loaded_tells tells attempts m log reply.Memory s = tt
+loaded_tells tells attempts m log (reply.BadLine at why) s = tt
 
-create_above_base : (tells : Bool) (what : Create) (reading : ℤ) (last : ℕ) (log : List Commit) (r : Reply) → IsSomeAnd (written_as r) (λ answer. CreateStands tells what answer reading last log) → IsAboveBase r
-create_above_base tells what reading last log (reply.Committed base time version) s = tt
-create_above_base tells what reading last log (reply.Already latest recorded) s = tt
-create_above_base tells what reading last log (reply.Loaded latest state time version) s = tt
-create_above_base tells what reading last log reply.NoTable s = tt
-create_above_base tells what reading last log (reply.Exists latest) s = tt
-create_above_base tells what reading last log (reply.Broken base why) s = tt
-create_above_base tells what reading last log (reply.Conflict base key latest rule winner) s = absurd s
-create_above_base tells what reading last log (reply.Contended attempts latest) s = tt
-create_above_base tells what reading last log (reply.Full latest) s = tt
-create_above_base tells what reading last log (reply.TimeEnd base end) s = tt
-create_above_base tells what reading last log (reply.TooLarge base bytes) s = tt
-create_above_base tells what reading last log (reply.Taken base id version) s = tt
-create_above_base tells what reading last log (reply.Fault file) s = tt
-create_above_base tells what reading last log reply.Memory s = tt
-create_above_base tells what reading last log (reply.BadLine at why) s = tt
+-- as many tries as the limit of attempts
+all_tries : (o : Option Terms) (t : Terms) (tried : ℕ) → o ≡ Some t → IfSome o (λ u. tried ≡ u.limits.attempts) → tried ≡ t.limits.attempts
+all_tries o t tried e limit = let P : Option Terms → Type 0 = λ u. IfSome u (λ v. tried ≡ v.limits.attempts) in subst P e limit
 
-write_above_base : (tells : Bool) (intent : Intent) (reading : ℤ) (last : ℕ) (log : List Commit) (r : Reply) → IsSomeAnd (written_as r) (λ answer. WriteStands tells intent answer reading last log) → IsAboveBase r
-write_above_base tells intent reading last log (reply.Committed base time version) s = tt
-write_above_base tells intent reading last log (reply.Already latest recorded) s = tt
-write_above_base tells intent reading last log (reply.Loaded latest state time version) s = tt
-write_above_base tells intent reading last log reply.NoTable s = tt
-write_above_base tells intent reading last log (reply.Exists latest) s = tt
-write_above_base tells intent reading last log (reply.Broken base why) s = tt
-write_above_base tells intent reading last log (reply.Conflict base key latest rule winner) s = omega (arith, s.from, s.to)
-write_above_base tells intent reading last log (reply.Contended attempts latest) s = tt
-write_above_base tells intent reading last log (reply.Full latest) s = tt
-write_above_base tells intent reading last log (reply.TimeEnd base end) s = tt
-write_above_base tells intent reading last log (reply.TooLarge base bytes) s = tt
-write_above_base tells intent reading last log (reply.Taken base id version) s = tt
-write_above_base tells intent reading last log (reply.Fault file) s = tt
-write_above_base tells intent reading last log reply.Memory s = tt
-write_above_base tells intent reading last log (reply.BadLine at why) s = tt
+found_taken : (k m : Knowledge) (base : Option ℕ) (version id : ℕ) → IsTaken base version id k m → Contains m.takens (name.Staged version id)
+found_taken k m base version id h =
+    let P : List LogName → Type 0 = λ ns. Contains ns (name.Staged version id) in
+    subst P (sym h.takens.is) (Contains-append_right k.takens h.takens.rest (name.Staged version id) h.noted)
 
-above_base : (tells : Bool) (asked : Result Request LineWhy) (x : Moment) (log : List Commit) → StandsTo tells asked x log → IsAboveBase x.reply
-above_base tells (Err first) x log s = refused_above x.line first x.reply s
-above_base tells (Ok (request.Create what)) x log s = create_above_base tells what x.reading x.last log x.reply s
-above_base tells (Ok (request.Write intent)) x log s = write_above_base tells intent x.reading x.last log x.reply s
-above_base tells (Ok request.Load) x log s = loaded_above tells log x.reply s
+create_tells : (tells : Bool) (what : Create) (reading : ℤ) (last : ℕ) (log : List Commit) (k m : Knowledge) (t : Terms) (r : Reply) → m.terms ≡ Some t
+    → IsSomeAnd (written_as r) (λ answer. CreateStands tells what answer reading last log) → IsSomeAnd (written_as r) (λ answer. WrittenNow tells answer k m) → TellsOfOthers t.limits.attempts m r
+create_tells tells what reading last log k m t (reply.Committed base time version) e s o = tt
+create_tells tells what reading last log k m t (reply.Already latest recorded) e s o = tt
+create_tells tells what reading last log k m t (reply.Loaded latest state time version) e s o = tt
+create_tells tells what reading last log k m t reply.NoTable e s o = tt
+create_tells tells what reading last log k m t (reply.Exists latest) e s o = tt
+create_tells tells what reading last log k m t (reply.Broken base why) e s o = tt
+create_tells tells what reading last log k m t (reply.Conflict base key latest rule winner) e s o = absurd s
+create_tells tells what reading last log k m t (reply.Contended tried latest) e s o = absurd s
+create_tells tells what reading last log k m t (reply.Full latest) e s o = tt
+create_tells tells what reading last log k m t (reply.TimeEnd base end) e s o = tt
+create_tells tells what reading last log k m t (reply.TooLarge base bytes) e s o = tt
+create_tells tells what reading last log k m t (reply.Taken base id version) e s o = found_taken k m base version id o
+create_tells tells what reading last log k m t (reply.Fault file) e s o = tt
+create_tells tells what reading last log k m t reply.Memory e s o = tt
+create_tells tells what reading last log k m t (reply.BadLine at why) e s o = tt
 
--- ---- each new version, and each conflict, makes what is seen longer
+write_tells : (tells : Bool) (intent : Intent) (reading : ℤ) (last : ℕ) (log : List Commit) (k m : Knowledge) (t : Terms) (r : Reply) → m.terms ≡ Some t
+    → IsSomeAnd (written_as r) (λ answer. WriteStands tells intent answer reading last log) → IsSomeAnd (written_as r) (λ answer. WrittenNow tells answer k m) → TellsOfOthers t.limits.attempts m r
+write_tells tells intent reading last log k m t (reply.Committed base time version) e s o = tt
+write_tells tells intent reading last log k m t (reply.Already latest recorded) e s o = tt
+write_tells tells intent reading last log k m t (reply.Loaded latest state time version) e s o = tt
+write_tells tells intent reading last log k m t reply.NoTable e s o = tt
+write_tells tells intent reading last log k m t (reply.Exists latest) e s o = tt
+write_tells tells intent reading last log k m t (reply.Broken base why) e s o = tt
+write_tells tells intent reading last log k m t (reply.Conflict base key latest rule winner) e s o = omega (arith, s.from, s.to)
+write_tells tells intent reading last log k m t (reply.Contended tried latest) e s o = all_tries m.terms t tried e o.limit
+write_tells tells intent reading last log k m t (reply.Full latest) e s o = tt
+write_tells tells intent reading last log k m t (reply.TimeEnd base end) e s o = tt
+write_tells tells intent reading last log k m t (reply.TooLarge base bytes) e s o = tt
+write_tells tells intent reading last log k m t (reply.Taken base id version) e s o = found_taken k m base version id o
+write_tells tells intent reading last log k m t (reply.Fault file) e s o = tt
+write_tells tells intent reading last log k m t reply.Memory e s o = tt
+write_tells tells intent reading last log k m t (reply.BadLine at why) e s o = tt
 
-longer_by : (tells : Bool) (r : Reply) (k m : Knowledge) → length k.seen ≤ length m.seen → Gains tells r k m → IsAboveBase r → length k.seen + (length (versions_of r) + conflicts_of r) ≤ length m.seen
-longer_by tells (reply.Committed base time version) k m grown g above = omega (arith, g.front.from, g.front.to)
-longer_by tells (reply.Already latest recorded) k m grown g above = omega (arith, g.front.from, g.front.to)
-longer_by tells (reply.Loaded latest state time version) k m grown g above = omega (arith, g.front.from, g.front.to)
-longer_by tells reply.NoTable k m grown g above = omega (arith, g.front.from, g.front.to)
-longer_by tells (reply.Exists latest) k m grown g above = omega (arith, g.front.from, g.front.to)
-longer_by tells (reply.Broken base why) k m grown g above = omega (arith, g.front.from, g.front.to)
-longer_by tells (reply.Conflict base key latest rule winner) k m grown g above = omega (arith, g.base, g.front.to, above)
-longer_by tells (reply.Contended attempts latest) k m grown g above = omega (arith, g.front.from, g.front.to)
-longer_by tells (reply.Full latest) k m grown g above = omega (arith, g.front.from, g.front.to)
-longer_by tells (reply.TimeEnd base last) k m grown g above = omega (arith, g.front.from, g.front.to)
-longer_by tells (reply.TooLarge base bytes) k m grown g above = omega (arith, g.front.from, g.front.to)
-longer_by tells (reply.Taken base id version) k m grown g above = omega (arith, g.front.from, g.front.to)
-longer_by tells (reply.Fault file) k m grown g above = omega (arith, grown)
-longer_by tells reply.Memory k m grown g above = omega (arith, grown)
-longer_by tells (reply.BadLine at why) k m grown g above = omega (arith, grown)
+tells_for : (tells : Bool) (asked : Result Request LineWhy) (x : Moment) (k : Knowledge) (t : Terms) (log : List Commit) → x.after.terms ≡ Some t
+    → StandsTo tells asked x log → OwnTo tells asked x.reply k x.after → TellsOfOthers t.limits.attempts x.after x.reply
+tells_for tells (Err first) x k t log e s o = refused_tells t.limits.attempts x.after x.line first x.reply s
+tells_for tells (Ok (request.Create what)) x k t log e s o = create_tells tells what x.reading x.last log k x.after t x.reply e s o
+tells_for tells (Ok (request.Write intent)) x k t log e s o = write_tells tells intent x.reading x.last log k x.after t x.reply e s o
+tells_for tells (Ok request.Load) x k t log e s o = loaded_tells tells t.limits.attempts x.after log x.reply s
 
-moment_longer : (tells : Bool) (k : Knowledge) (x : Moment) → IsRight tells k x → length k.seen + (length (versions_of x.reply) + conflicts_of x.reply) ≤ length x.after.seen
-moment_longer tells k x r = longer_by tells x.reply k x.after (length_longer k.seen x.after.seen r.grows.seen) r.gains (above_base tells (asked_by x.line) x x.after.seen r.stands)
+-- a reply that is right, where the caller's terms are these
+right_tells : (tells : Bool) (k : Knowledge) (x : Moment) (t : Terms) → k.terms ≡ Some t → IsRight tells k x → TellsOfOthers t.limits.attempts x.after x.reply
+right_tells tells k x t e r = tells_for tells (asked_by x.line) x k t x.after.seen (r.grows.terms ∙ e) r.stands r.own
 
--- ---- as many tries were lost as a Contended reply tells
+-- ---- each new version, and each conflict, makes what is seen longer; and as many tries are lost as a Contended reply tells
 
-abbrev HasTries : Reply → Type 0
-HasTries (reply.Committed base time version) = Unit {0}
-HasTries (reply.Already latest recorded) = Unit {0}
-HasTries (reply.Loaded latest state time version) = Unit {0}
-HasTries reply.NoTable = Unit {0}
-HasTries (reply.Exists latest) = Unit {0}
-HasTries (reply.Broken base why) = Unit {0}
-HasTries (reply.Conflict base key latest rule winner) = Unit {0}
-HasTries (reply.Contended attempts latest) = 1 ≤ attempts
-HasTries (reply.Full latest) = Unit {0}
-HasTries (reply.TimeEnd base last) = Unit {0}
-HasTries (reply.TooLarge base bytes) = Unit {0}
-HasTries (reply.Taken base id version) = Unit {0}
-HasTries (reply.Fault file) = Unit {0}
-HasTries reply.Memory = Unit {0}
-HasTries (reply.BadLine at why) = Unit {0}
+longer_by : (tells : Bool) (attempts : ℕ) (r : Reply) (k m : Knowledge) → length k.seen ≤ length m.seen → Gains tells r k m → TellsOfOthers attempts m r
+    → length k.seen + (length (versions_of r) + conflicts_of r) ≤ length m.seen
+longer_by tells attempts (reply.Committed base time version) k m grown g others = omega (arith, g.front.from, g.front.to)
+longer_by tells attempts (reply.Already latest recorded) k m grown g others = omega (arith, g.front.from, g.front.to)
+longer_by tells attempts (reply.Loaded latest state time version) k m grown g others = omega (arith, g.front.from, g.front.to)
+longer_by tells attempts reply.NoTable k m grown g others = omega (arith, g.front.from, g.front.to)
+longer_by tells attempts (reply.Exists latest) k m grown g others = omega (arith, g.front.from, g.front.to)
+longer_by tells attempts (reply.Broken base why) k m grown g others = omega (arith, g.front.from, g.front.to)
+longer_by tells attempts (reply.Conflict base key latest rule winner) k m grown g others = omega (arith, g.base, g.front.to, others)
+longer_by tells attempts (reply.Contended tried latest) k m grown g others = omega (arith, g.front.from, g.front.to)
+longer_by tells attempts (reply.Full latest) k m grown g others = omega (arith, g.front.from, g.front.to)
+longer_by tells attempts (reply.TimeEnd base end) k m grown g others = omega (arith, g.front.from, g.front.to)
+longer_by tells attempts (reply.TooLarge base bytes) k m grown g others = omega (arith, g.front.from, g.front.to)
+longer_by tells attempts (reply.Taken base id version) k m grown g others = omega (arith, g.front.from, g.front.to)
+longer_by tells attempts (reply.Fault file) k m grown g others = omega (arith, grown)
+longer_by tells attempts reply.Memory k m grown g others = omega (arith, grown)
+longer_by tells attempts (reply.BadLine at why) k m grown g others = omega (arith, grown)
 
-at_least_one : (o : Option Terms) (t : Terms) (attempts : ℕ) → o ≡ Some t → 1 ≤ t.limits.attempts → IfSome o (λ u. attempts ≡ u.limits.attempts) → 1 ≤ attempts
-at_least_one o t attempts e least limit =
-    let P : Option Terms → Type 0 = λ u. IfSome u (λ v. attempts ≡ v.limits.attempts) in
-    let is : attempts ≡ t.limits.attempts = subst P e limit in
-    omega (arith, is, least)
+moment_longer : (tells : Bool) (k : Knowledge) (x : Moment) (t : Terms) → k.terms ≡ Some t → IsRight tells k x → length k.seen + (length (versions_of x.reply) + conflicts_of x.reply) ≤ length x.after.seen
+moment_longer tells k x t e r = longer_by tells t.limits.attempts x.reply k x.after (length_longer k.seen x.after.seen r.grows.seen) r.gains (right_tells tells k x t e r)
 
-refused_tries : (r : Reply) (k m : Knowledge) (line : Numbered) (first : LineWhy) → IsSomeAnd (refused_as r) (λ refusal. RefusalStands line first refusal) → HasTries r
-refused_tries (reply.Committed base time version) k m line first o = tt
-refused_tries (reply.Already latest recorded) k m line first o = tt
-refused_tries (reply.Loaded latest state time version) k m line first o = tt
-refused_tries reply.NoTable k m line first o = tt
-refused_tries (reply.Exists latest) k m line first o = tt
-refused_tries (reply.Broken base why) k m line first o = tt
-refused_tries (reply.Conflict base key latest rule winner) k m line first o = tt
-refused_tries (reply.Contended attempts latest) k m line first o = absurd o
-refused_tries (reply.Full latest) k m line first o = tt
-refused_tries (reply.TimeEnd base end) k m line first o = tt
-refused_tries (reply.TooLarge base bytes) k m line first o = tt
-refused_tries (reply.Taken base id version) k m line first o = tt
-refused_tries (reply.Fault file) k m line first o = tt
-refused_tries reply.Memory k m line first o = tt
-refused_tries (reply.BadLine at why) k m line first o = tt
+run_longer : (tells : Bool) (k m : Knowledge) (t : Terms) (xs : List Moment) → k.terms ≡ Some t → Run tells k xs m
+    → length k.seen + total (λ r. length (versions_of r) + conflicts_of r) xs ≤ length m.seen
+run_longer tells k m t [] e r = omega (arith, ap (λ (n : Knowledge). length n.seen) r)
+run_longer tells k m t (x ∷ xs) e r = omega (arith, moment_longer tells k x t e r.0, run_longer tells x.after m t xs (r.0.grows.terms ∙ e) r.1)
 
-loaded_tries : (tells : Bool) (r : Reply) (k m : Knowledge) → IsSomeAnd (loaded_as r) (λ answer. LoadMoment tells answer k m) → HasTries r
-loaded_tries tells (reply.Committed base time version) k m o = tt
-loaded_tries tells (reply.Already latest recorded) k m o = tt
-loaded_tries tells (reply.Loaded latest state time version) k m o = tt
-loaded_tries tells reply.NoTable k m o = tt
-loaded_tries tells (reply.Exists latest) k m o = tt
-loaded_tries tells (reply.Broken base why) k m o = tt
-loaded_tries tells (reply.Conflict base key latest rule winner) k m o = tt
-loaded_tries tells (reply.Contended attempts latest) k m o = absurd o
-loaded_tries tells (reply.Full latest) k m o = tt
-loaded_tries tells (reply.TimeEnd base last) k m o = tt
-loaded_tries tells (reply.TooLarge base bytes) k m o = tt
-loaded_tries tells (reply.Taken base id version) k m o = tt
-loaded_tries tells (reply.Fault file) k m o = tt
-loaded_tries tells reply.Memory k m o = tt
-loaded_tries tells (reply.BadLine at why) k m o = tt
-
-written_tries : (tells : Bool) (r : Reply) (k m : Knowledge) (t : Terms) → m.terms ≡ Some t → 1 ≤ t.limits.attempts → IsSomeAnd (written_as r) (λ answer. WrittenNow tells answer k m) → HasTries r
-written_tries tells (reply.Committed base time version) k m t e least o = tt
-written_tries tells (reply.Already latest recorded) k m t e least o = tt
-written_tries tells (reply.Loaded latest state time version) k m t e least o = tt
-written_tries tells reply.NoTable k m t e least o = tt
-written_tries tells (reply.Exists latest) k m t e least o = tt
-written_tries tells (reply.Broken base why) k m t e least o = tt
-written_tries tells (reply.Conflict base key latest rule winner) k m t e least o = tt
-written_tries tells (reply.Contended attempts latest) k m t e least o = at_least_one m.terms t attempts e least o.limit
-written_tries tells (reply.Full latest) k m t e least o = tt
-written_tries tells (reply.TimeEnd base last) k m t e least o = tt
-written_tries tells (reply.TooLarge base bytes) k m t e least o = tt
-written_tries tells (reply.Taken base id version) k m t e least o = tt
-written_tries tells (reply.Fault file) k m t e least o = tt
-written_tries tells reply.Memory k m t e least o = tt
-written_tries tells (reply.BadLine at why) k m t e least o = tt
-
-tries_to : (tells : Bool) (asked : Result Request LineWhy) (x : Moment) (k : Knowledge) (t : Terms) (log : List Commit) → x.after.terms ≡ Some t → 1 ≤ t.limits.attempts
-    → StandsTo tells asked x log → OwnTo tells asked x.reply k x.after → HasTries x.reply
-tries_to tells (Err first) x k t log e least s o = refused_tries x.reply k x.after x.line first s
-tries_to tells (Ok (request.Create what)) x k t log e least s o = written_tries tells x.reply k x.after t e least o
-tries_to tells (Ok (request.Write intent)) x k t log e least s o = written_tries tells x.reply k x.after t e least o
-tries_to tells (Ok request.Load) x k t log e least s o = loaded_tries tells x.reply k x.after o
-
-few_contended : (r : Reply) → HasTries r → contended_of r ≤ tries_of r
-few_contended (reply.Committed base time version) h = omega arith
-few_contended (reply.Already latest recorded) h = omega arith
-few_contended (reply.Loaded latest state time version) h = omega arith
-few_contended reply.NoTable h = omega arith
-few_contended (reply.Exists latest) h = omega arith
-few_contended (reply.Broken base why) h = omega arith
-few_contended (reply.Conflict base key latest rule winner) h = omega arith
-few_contended (reply.Contended attempts latest) h = h
-few_contended (reply.Full latest) h = omega arith
-few_contended (reply.TimeEnd base last) h = omega arith
-few_contended (reply.TooLarge base bytes) h = omega arith
-few_contended (reply.Taken base id version) h = omega arith
-few_contended (reply.Fault file) h = omega arith
-few_contended reply.Memory h = omega arith
-few_contended (reply.BadLine at why) h = omega arith
+few_contended : (attempts : ℕ) (m : Knowledge) (r : Reply) → 1 ≤ attempts → TellsOfOthers attempts m r → contended_of r ≤ tries_of r
+few_contended attempts m (reply.Committed base time version) least h = omega arith
+few_contended attempts m (reply.Already latest recorded) least h = omega arith
+few_contended attempts m (reply.Loaded latest state time version) least h = omega arith
+few_contended attempts m reply.NoTable least h = omega arith
+few_contended attempts m (reply.Exists latest) least h = omega arith
+few_contended attempts m (reply.Broken base why) least h = omega arith
+few_contended attempts m (reply.Conflict base key latest rule winner) least h = omega arith
+few_contended attempts m (reply.Contended tried latest) least h = omega (arith, least, h)
+few_contended attempts m (reply.Full latest) least h = omega arith
+few_contended attempts m (reply.TimeEnd base end) least h = omega arith
+few_contended attempts m (reply.TooLarge base bytes) least h = omega arith
+few_contended attempts m (reply.Taken base id version) least h = omega arith
+few_contended attempts m (reply.Fault file) least h = omega arith
+few_contended attempts m reply.Memory least h = omega arith
+few_contended attempts m (reply.BadLine at why) least h = omega arith
 
 run_contended : (tells : Bool) (k m : Knowledge) (t : Terms) (xs : List Moment) → k.terms ≡ Some t → 1 ≤ t.limits.attempts → Run tells k xs m → total contended_of xs ≤ total tries_of xs
 run_contended tells k m t [] e least r = omega arith
 run_contended tells k m t (x ∷ xs) e least r =
-    let after : x.after.terms ≡ Some t = r.0.grows.terms ∙ e in
-    omega (arith, few_contended x.reply (tries_to tells (asked_by x.line) x k t x.after.seen after least r.0.stands r.0.own), run_contended tells x.after m t xs after least r.1)
+    omega (arith, few_contended t.limits.attempts x.after x.reply least (right_tells tells k x t e r.0), run_contended tells x.after m t xs (r.0.grows.terms ∙ e) least r.1)
 
 -- ---- none of them
 
@@ -325,7 +263,7 @@ none_contests (x ∷ xs) c d =
 pub run_uncontested : (tells : Bool) (k m : Knowledge) (t : Terms) (xs : List Moment) → Run tells k xs m → k.terms ≡ Some t → 1 ≤ t.limits.attempts → m.tries ≡ k.tries
     → length m.seen ≡ length k.seen + length (versions_in xs) → All (λ x. IsUncontested x.reply) xs
 run_uncontested tells k m t xs r e least tries own =
-    let grown = run_total tells (λ n. length n.seen) (λ r. length (versions_of r) + conflicts_of r) (λ k x h. moment_longer tells k x h) k m xs r in
+    let grown = run_longer tells k m t xs e r in
     let lost = run_total tells (λ n. length n.tries) tries_of (λ k x h. h.gains.tries) k m xs r in
     none_contests xs
     (omega (arith, grown, total_versions xs, own))
@@ -333,114 +271,39 @@ run_uncontested tells k m t xs r e least tries own =
 
 -- ---- names that were found taken
 
-abbrev IsNoted : Knowledge → Reply → Type 0
-IsNoted m (reply.Committed base time version) = Unit {0}
-IsNoted m (reply.Already latest recorded) = Unit {0}
-IsNoted m (reply.Loaded latest state time version) = Unit {0}
-IsNoted m reply.NoTable = Unit {0}
-IsNoted m (reply.Exists latest) = Unit {0}
-IsNoted m (reply.Broken base why) = Unit {0}
-IsNoted m (reply.Conflict base key latest rule winner) = Unit {0}
-IsNoted m (reply.Contended attempts latest) = Unit {0}
-IsNoted m (reply.Full latest) = Unit {0}
-IsNoted m (reply.TimeEnd base end) = Unit {0}
-IsNoted m (reply.TooLarge base bytes) = Unit {0}
-IsNoted m (reply.Taken base id version) = Contains m.takens (name.Staged version id)
-IsNoted m (reply.Fault file) = Unit {0}
-IsNoted m reply.Memory = Unit {0}
-IsNoted m (reply.BadLine at why) = Unit {0}
-
-refused_noted : (m : Knowledge) (line : Numbered) (first : LineWhy) (r : Reply) → IsSomeAnd (refused_as r) (λ refusal. RefusalStands line first refusal) → IsNoted m r
-refused_noted m line first (reply.Committed base time version) o = tt
-refused_noted m line first (reply.Already latest recorded) o = tt
-refused_noted m line first (reply.Loaded latest state time version) o = tt
-refused_noted m line first reply.NoTable o = tt
-refused_noted m line first (reply.Exists latest) o = tt
-refused_noted m line first (reply.Broken base why) o = tt
-refused_noted m line first (reply.Conflict base key latest rule winner) o = tt
-refused_noted m line first (reply.Contended attempts latest) o = tt
-refused_noted m line first (reply.Full latest) o = tt
-refused_noted m line first (reply.TimeEnd base end) o = tt
-refused_noted m line first (reply.TooLarge base bytes) o = tt
-refused_noted m line first (reply.Taken base id version) o = absurd o
-refused_noted m line first (reply.Fault file) o = tt
-refused_noted m line first reply.Memory o = tt
-refused_noted m line first (reply.BadLine at why) o = tt
-
-loaded_noted : (tells : Bool) (k m : Knowledge) (r : Reply) → IsSomeAnd (loaded_as r) (λ answer. LoadMoment tells answer k m) → IsNoted m r
-loaded_noted tells k m (reply.Committed base time version) o = tt
-loaded_noted tells k m (reply.Already latest recorded) o = tt
-loaded_noted tells k m (reply.Loaded latest state time version) o = tt
-loaded_noted tells k m reply.NoTable o = tt
-loaded_noted tells k m (reply.Exists latest) o = tt
-loaded_noted tells k m (reply.Broken base why) o = tt
-loaded_noted tells k m (reply.Conflict base key latest rule winner) o = tt
-loaded_noted tells k m (reply.Contended attempts latest) o = tt
-loaded_noted tells k m (reply.Full latest) o = tt
-loaded_noted tells k m (reply.TimeEnd base end) o = tt
-loaded_noted tells k m (reply.TooLarge base bytes) o = tt
-loaded_noted tells k m (reply.Taken base id version) o = absurd o
-loaded_noted tells k m (reply.Fault file) o = tt
-loaded_noted tells k m reply.Memory o = tt
-loaded_noted tells k m (reply.BadLine at why) o = tt
-
-written_noted : (tells : Bool) (k m : Knowledge) (r : Reply) → IsSomeAnd (written_as r) (λ answer. WrittenNow tells answer k m) → IsNoted m r
-written_noted tells k m (reply.Committed base time version) o = tt
-written_noted tells k m (reply.Already latest recorded) o = tt
-written_noted tells k m (reply.Loaded latest state time version) o = tt
-written_noted tells k m reply.NoTable o = tt
-written_noted tells k m (reply.Exists latest) o = tt
-written_noted tells k m (reply.Broken base why) o = tt
-written_noted tells k m (reply.Conflict base key latest rule winner) o = tt
-written_noted tells k m (reply.Contended attempts latest) o = tt
-written_noted tells k m (reply.Full latest) o = tt
-written_noted tells k m (reply.TimeEnd base end) o = tt
-written_noted tells k m (reply.TooLarge base bytes) o = tt
-written_noted tells k m (reply.Taken base id version) o =
-    let P : List LogName → Type 0 = λ ns. Contains ns (name.Staged version id) in
-    subst P (sym o.takens.is) (Contains-append_right k.takens o.takens.rest (name.Staged version id) o.noted)
-written_noted tells k m (reply.Fault file) o = tt
-written_noted tells k m reply.Memory o = tt
-written_noted tells k m (reply.BadLine at why) o = tt
-
-noted_to : (tells : Bool) (asked : Result Request LineWhy) (x : Moment) (k : Knowledge) (log : List Commit) → StandsTo tells asked x log → OwnTo tells asked x.reply k x.after → IsNoted x.after x.reply
-noted_to tells (Err first) x k log s o = refused_noted x.after x.line first x.reply s
-noted_to tells (Ok (request.Create what)) x k log s o = written_noted tells k x.after x.reply o
-noted_to tells (Ok (request.Write intent)) x k log s o = written_noted tells k x.after x.reply o
-noted_to tells (Ok request.Load) x k log s o = loaded_noted tells k x.after x.reply o
-
 none_in : (n : LogName) → Contains [] n → ⊥
 none_in n c = omega (arith, c.1)
 
-noted_taken : (m : Knowledge) (r : Reply) (version id : ℕ) → IsNoted m r → Contains (takens_of r) (name.Staged version id) → Contains m.takens (name.Staged version id)
-noted_taken m (reply.Committed base time v) version id h c = absurd (none_in (name.Staged version id) c)
-noted_taken m (reply.Already latest recorded) version id h c = absurd (none_in (name.Staged version id) c)
-noted_taken m (reply.Loaded latest state time v) version id h c = absurd (none_in (name.Staged version id) c)
-noted_taken m reply.NoTable version id h c = absurd (none_in (name.Staged version id) c)
-noted_taken m (reply.Exists latest) version id h c = absurd (none_in (name.Staged version id) c)
-noted_taken m (reply.Broken base why) version id h c = absurd (none_in (name.Staged version id) c)
-noted_taken m (reply.Conflict base key latest rule winner) version id h c = absurd (none_in (name.Staged version id) c)
-noted_taken m (reply.Contended attempts latest) version id h c = absurd (none_in (name.Staged version id) c)
-noted_taken m (reply.Full latest) version id h c = absurd (none_in (name.Staged version id) c)
-noted_taken m (reply.TimeEnd base end) version id h c = absurd (none_in (name.Staged version id) c)
-noted_taken m (reply.TooLarge base bytes) version id h c = absurd (none_in (name.Staged version id) c)
-noted_taken m (reply.Taken base i v) version id h c = elim (Contains-push_cases [] (name.Staged v i) (name.Staged version id) c) [
+noted_taken : (attempts : ℕ) (m : Knowledge) (r : Reply) (version id : ℕ) → TellsOfOthers attempts m r → Contains (takens_of r) (name.Staged version id) → Contains m.takens (name.Staged version id)
+noted_taken attempts m (reply.Committed base time v) version id h c = absurd (none_in (name.Staged version id) c)
+noted_taken attempts m (reply.Already latest recorded) version id h c = absurd (none_in (name.Staged version id) c)
+noted_taken attempts m (reply.Loaded latest state time v) version id h c = absurd (none_in (name.Staged version id) c)
+noted_taken attempts m reply.NoTable version id h c = absurd (none_in (name.Staged version id) c)
+noted_taken attempts m (reply.Exists latest) version id h c = absurd (none_in (name.Staged version id) c)
+noted_taken attempts m (reply.Broken base why) version id h c = absurd (none_in (name.Staged version id) c)
+noted_taken attempts m (reply.Conflict base key latest rule winner) version id h c = absurd (none_in (name.Staged version id) c)
+noted_taken attempts m (reply.Contended tried latest) version id h c = absurd (none_in (name.Staged version id) c)
+noted_taken attempts m (reply.Full latest) version id h c = absurd (none_in (name.Staged version id) c)
+noted_taken attempts m (reply.TimeEnd base end) version id h c = absurd (none_in (name.Staged version id) c)
+noted_taken attempts m (reply.TooLarge base bytes) version id h c = absurd (none_in (name.Staged version id) c)
+noted_taken attempts m (reply.Taken base i v) version id h c = elim (Contains-push_cases [] (name.Staged v i) (name.Staged version id) c) [
   | inl none ↦ absurd (none_in (name.Staged version id) none)
   | inr same ↦ subst (Contains m.takens) same h
 ]
-noted_taken m (reply.Fault file) version id h c = absurd (none_in (name.Staged version id) c)
-noted_taken m reply.Memory version id h c = absurd (none_in (name.Staged version id) c)
-noted_taken m (reply.BadLine at why) version id h c = absurd (none_in (name.Staged version id) c)
+noted_taken attempts m (reply.Fault file) version id h c = absurd (none_in (name.Staged version id) c)
+noted_taken attempts m reply.Memory version id h c = absurd (none_in (name.Staged version id) c)
+noted_taken attempts m (reply.BadLine at why) version id h c = absurd (none_in (name.Staged version id) c)
 
-run_takens : (tells : Bool) (k m : Knowledge) (xs : List Moment) → Run tells k xs m → (version id : ℕ) → Contains (takens_in xs) (name.Staged version id) → Contains m.takens (name.Staged version id)
-run_takens tells k m [] r version id c = absurd (none_in (name.Staged version id) c)
-run_takens tells k m (x ∷ xs) r version id c = elim (Contains-append_cases (takens_of x.reply) (takens_in xs) (name.Staged version id) c) [
+run_takens : (tells : Bool) (k m : Knowledge) (t : Terms) (xs : List Moment) → k.terms ≡ Some t → Run tells k xs m
+    → (version id : ℕ) → Contains (takens_in xs) (name.Staged version id) → Contains m.takens (name.Staged version id)
+run_takens tells k m t [] e r version id c = absurd (none_in (name.Staged version id) c)
+run_takens tells k m t (x ∷ xs) e r version id c = elim (Contains-append_cases (takens_of x.reply) (takens_in xs) (name.Staged version id) c) [
   | inl here ↦
       let grown = run_grows tells x.after m xs r.1 in
-      let now = noted_taken x.after x.reply version id (noted_to tells (asked_by x.line) x k x.after.seen r.0.stands r.0.own) here in
+      let now = noted_taken t.limits.attempts x.after x.reply version id (right_tells tells k x t e r.0) here in
       let P : List LogName → Type 0 = λ ns. Contains ns (name.Staged version id) in
       subst P (sym grown.takens.is) (Contains-append_left x.after.takens grown.takens.rest (name.Staged version id) now)
-  | inr later ↦ run_takens tells x.after m xs r.1 version id later
+  | inr later ↦ run_takens tells x.after m t xs (r.0.grows.terms ∙ e) r.1 version id later
 ]
 
 is_untaken : (r : Reply) → ((version id : ℕ) → Contains (takens_of r) (name.Staged version id) → ⊥) → IsUntaken r
@@ -467,16 +330,16 @@ none_untaken (x ∷ xs) h =
     (is_untaken x.reply (λ version id c. h version id (Contains-append_left (takens_of x.reply) (takens_in xs) (name.Staged version id) c)))
     (none_untaken xs (λ version id c. h version id (Contains-append_right (takens_of x.reply) (takens_in xs) (name.Staged version id) c)))
 
-pub run_untaken : (tells : Bool) (k m : Knowledge) (xs : List Moment) → Run tells k xs m
+pub run_untaken : (tells : Bool) (k m : Knowledge) (t : Terms) (xs : List Moment) → Run tells k xs m → k.terms ≡ Some t
     → ((version id : ℕ) → Contains m.takens (name.Staged version id) → Contains m.put (name.Staged version id))
     → ((version id : ℕ) → Contains (takens_in xs) (name.Staged version id) → ¬ (Contains m.put (name.Staged version id)))
     → All (λ x. IsUntaken x.reply) xs
-run_untaken tells k m xs r puts apart = none_untaken xs (λ version id c. apart version id c (puts version id (run_takens tells k m xs r version id c)))
+run_untaken tells k m t xs r e puts apart = none_untaken xs (λ version id c. apart version id c (puts version id (run_takens tells k m t xs e r version id c)))
 
 -- the same of a session before which nothing was put, where the ids are all told to differ
-pub run_all_untaken : (tells : Bool) (k m : Knowledge) (xs : List Moment) (differ : Bool) (given given' : List ℕ) → Run tells k xs m → k.put ≡ []
+pub run_all_untaken : (tells : Bool) (k m : Knowledge) (t : Terms) (xs : List Moment) (differ : Bool) (given given' : List ℕ) → Run tells k xs m → k.terms ≡ Some t → k.put ≡ []
     → ((version id : ℕ) → Contains m.takens (name.Staged version id) → Contains m.put (name.Staged version id))
     → NamesApart differ given given' (takens_in xs) k m → All (λ x. IsUntaken x.reply) xs
-run_all_untaken tells k m xs differ given given' r none puts apart =
+run_all_untaken tells k m t xs differ given given' r e none puts apart =
     let all : m.put ≡ apart.put.rest = apart.put.is ∙ ap (λ ns. ns ++ apart.put.rest) none in
-    run_untaken tells k m xs r puts (λ version id c put. apart.apart version id c (subst (λ ns. Contains ns (name.Staged version id)) all put))
+    run_untaken tells k m t xs r e puts (λ version id c put. apart.apart version id c (subst (λ ns. Contains ns (name.Staged version id)) all put))

@@ -38,7 +38,7 @@ pub fn replies_where_nobody_else_ratifies_are_uncontested()
 
 /// Where each name that was found taken is one that the caller put, and none that it put in the session, no reply is Taken.
 pub fn replies_where_nobody_else_stages_are_untaken()
-    ensures { (tells : Bool) (k m : Knowledge) (moments : List Moment) → Run tells k moments m → ((version id : ℕ) → Contains m.takens (name.Staged version id) → Contains m.put (name.Staged version id)) → ((version id : ℕ) → Contains (takens_in moments) (name.Staged version id) → ¬ (Contains m.put (name.Staged version id))) → All (λ x. IsUntaken x.reply) moments }
+    ensures { (tells : Bool) (k m : Knowledge) (t : Terms) (moments : List Moment) → Run tells k moments m → k.terms ≡ Some t → ((version id : ℕ) → Contains m.takens (name.Staged version id) → Contains m.put (name.Staged version id)) → ((version id : ℕ) → Contains (takens_in moments) (name.Staged version id) → ¬ (Contains m.put (name.Staged version id))) → All (λ x. IsUntaken x.reply) moments }
 {}
 
 /// The text of a Loaded reply is that of the commits: whatever state stands for them gives the same.
