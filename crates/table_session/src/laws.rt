@@ -36,7 +36,7 @@ pub fn replies_where_nobody_else_ratifies_are_uncontested()
     ensures { (tells : Bool) (k m : Knowledge) (t : Terms) (moments : List Moment) → Run tells k moments m → k.terms ≡ Some t → 1 ≤ t.limits.attempts → m.tries ≡ k.tries → length m.seen ≡ length k.seen + length (versions_in moments) → All (λ x. IsUncontested x.reply) moments }
 {}
 
-/// Where each name that was found taken is one that the caller put, and none that it put in the session, no reply is Taken.
+/// Where each name that was found taken is among those that the caller may have put, and no name that a Taken reply tells is, no reply is Taken.
 pub fn replies_where_nobody_else_stages_are_untaken()
     ensures { (tells : Bool) (k m : Knowledge) (t : Terms) (moments : List Moment) → Run tells k moments m → k.terms ≡ Some t → ((version id : ℕ) → Contains m.takens (name.Staged version id) → Contains m.put (name.Staged version id)) → ((version id : ℕ) → Contains (takens_in moments) (name.Staged version id) → ¬ (Contains m.put (name.Staged version id))) → All (λ x. IsUntaken x.reply) moments }
 {}
