@@ -1,9 +1,11 @@
 //! Holds a session over standard input and output and a store in memory, and ends with the status of the run.
 #![tactic(auto)]
 
+mod host_time;
 mod random_ids;
 
 use delta_cli::{Ended, Status, USAGE, run};
+use host_time::HostTime;
 use lake_io::{StdSink, StdSource, SystemClock};
 use object_store::MemStore;
 use rand::make_rng;
@@ -20,7 +22,7 @@ fn main(rt: HostRuntime) -> io::Result<ExitCode> {
     }
     let mut source = StdSource::new(rt.reader());
     let mut sink = StdSink::new(io::writer(&rt));
-    let mut clock = SystemClock::new(rt.clone()?);
+    let mut clock = SystemClock::new(HostTime::new(rt.clone()?));
     let generator: StdRng = make_rng(&rt)?;
     let mut ids = RandomIds::new(generator);
     let store = MemStore::new(alloc, Vec::new(alloc));
@@ -55,3 +57,6 @@ fn status_of(ended: Ended<MemStore>) -> Status {
         }
     }
 }
+
+#[cfg(test)]
+mod tests;

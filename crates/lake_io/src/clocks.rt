@@ -1,9 +1,9 @@
 //! Clocks.
-ghost use Rattle.std.specs.Prelude.{◌≡◌, Bool, true, false, ℤ, pos, ◌≤ℤ◌, IsTrue, IfSome, ◌/◌};
-ghost use Rattle.std.specs.Time.{system_time_nanos};
+ghost use Rattle.std.specs.Prelude.{◌≡◌, Bool, true, false, ℤ, pos, ◌≤ℤ◌, IsTrue, Option, unwrap_or};
+ghost use Rattle.std.specs.declared.time.SystemTime.{SystemTime};
+ghost use Rattle.lake_io.specs.Adapters.{ms_of, told_ms};
 
 use std::marker::Model;
-use std::rt::Clock as SystemTimer;
 use std::time::{SystemTime, UNIX_EPOCH};
 
 /// A clock of milliseconds since 1970.
@@ -56,56 +56,64 @@ impl Clock for FixedClock {
     }
 }
 
-/// The system's clock. Where it cannot be read, or is set before 1970, the last reading stands, which is 0 before the first.
+/// What tells a `SystemClock` the time: in a program its runtime.
+pub trait TimeOfDay {
+    /// What may be told: the teller before, the time or none, and the teller after.
+    ghost tells: { Self → Option SystemTime → Self → Type 0 };
+
+    /// The time, or none where it cannot be told or is before 1970.
+    fn tell(&mut self) -> Option<SystemTime>
+        ensures { tells self.old result self.new };
+}
+
+/// A clock that asks for the time at each reading. Where none is told, or one whose milliseconds 64 bits do not hold, the last reading stands, which is
+/// 0 before the first.
 #[derive(Drop)]
-pub struct SystemClock<R: SystemTimer + Drop> {
-    timer: R,
+pub struct SystemClock<T: TimeOfDay + Drop> {
+    teller: T,
     last: i64,
 }
 
-impl<R: SystemTimer + Drop> Model for SystemClock<R> {
+impl<T: TimeOfDay + Drop> Model for SystemClock<T> {
     ghost use Rattle.std.specs.Prelude.{ℤ, pos, ◌≤ℤ◌};
+    ghost use Rattle.lake_io.specs.Adapters.{Timed};
 
-    ghost Value = { ℤ };
+    ghost Value = { Timed T };
 
-    ghost view = { λ c. c.last };
+    ghost view = { λ c. record { teller = c.teller; last = c.last } };
 
     ghost invariant = { λ c. pos 0 ≤ℤ c.last };
 }
 
-impl<R: SystemTimer + Drop> SystemClock<R> {
-    /// The clock of this runtime, which was not read yet.
-    pub fn new(timer: R) -> Self
-        ensures { result ≡ pos 0 }
+impl<T: TimeOfDay + Drop> SystemClock<T> {
+    /// A clock that was not read yet.
+    pub fn new(teller: T) -> Self
+        ensures { result ≡ record { teller = teller; last = pos 0 } }
     {
-        SystemClock { timer, last: 0 }
+        SystemClock { teller, last: 0 }
     }
 }
 
-impl<R: SystemTimer + Drop> Clock for SystemClock<R> {
+impl<T: TimeOfDay + Drop> Clock for SystemClock<T> {
     ghost fixed = { false };
 
-    ghost reading = { λ c. c };
+    ghost reading = { λ c. c.last };
 
-    fn now_ms(&mut self) -> i64 {
-        if let Some(now) = system_ms(&self.timer) {
+    fn now_ms(&mut self) -> i64
+        ensures from_zero { pos 0 ≤ℤ result }
+        ensures last { self.new.last ≡ result }
+        ensures asks { (time : _) × T.tells self.old.teller time self.new.teller × (result ≡ unwrap_or (told_ms time) self.old.last) }
+    {
+        if let Some(now) = self.teller.tell().and_then(ms_since_1970) {
             self.last = now;
-            return now;
         }
         self.last
     }
 }
 
-/// The milliseconds since 1970, where they can be read.
-fn system_ms<R: SystemTimer>(timer: &R) -> Option<i64>
-    ensures { IfSome result (λ ms. pos 0 ≤ℤ ms) }
-{
-    ms_since_1970(SystemTime::now(timer).ok()?)
-}
-
 /// The milliseconds from 1970 to this time, where 64 bits hold them.
 fn ms_since_1970(time: SystemTime) -> Option<i64>
-    ensures { IfSome result (λ ms. ms ≡ pos (system_time_nanos time / 1000000)) }
+    ensures { result ≡ ms_of time }
 {
     let since = time.duration_since(UNIX_EPOCH).ok()?;
     i64::try_from(since.as_millis()).ok()

@@ -12,7 +12,7 @@ mod output;
 mod reader;
 
 pub use answers::{End, ReadFault, WriteFault};
-pub use clocks::{Clock, FixedClock, SystemClock};
+pub use clocks::{Clock, FixedClock, SystemClock, TimeOfDay};
 pub use identifiers::{Ids, ListIds};
 pub use input::{MemSource, Source, StdSource};
 pub use law::lines_are_cut_at_lf;

@@ -1,10 +1,11 @@
-ghost use Rattle.std.specs.Prelude.{◌≡◌, IfOk};
+ghost use Rattle.std.specs.Prelude.{◌≡◌, IfOk, ⊤};
 
 use super::*;
 use std::alloc::{AllocError, Global};
 use std::io;
 use std::io::{ErrorKind, Read, Write};
 use std::test::Fail;
+use std::time::{Duration, SystemTime, UNIX_EPOCH};
 
 /// What a new reader answers of a source.
 fn heard<S: Source>(alloc: Global, source: &mut S) -> Result<String, AllocError> {
@@ -157,16 +158,52 @@ fn writes(rt: HostRuntime) -> Result<(), Fail> {
 fn clocks_and_ids(rt: HostRuntime) -> Result<(), Fail> {
     let alloc = rt.alloc();
     let mut fixed = FixedClock::new(1_000);
-    let mut system = SystemClock::new(rt.clone()?);
     for _ in 0..3 {
         assert_eq!(rt; fixed.now_ms(), 1_000);
-        assert!(rt; system.now_ms() > 1_600_000_000_000);
     }
     let most = u128::MAX;
     let mut counting = ListIds::from(alloc, most - 1);
     let mut listed = ListIds::of(vec![in alloc; 1, 2, 2]?);
     for (counted, id) in [(most - 1, 1), (most, 2), (most, 2), (most, 2)] {
         assert_eq!(rt; (counting.next(), listed.next()), (counted, id));
+    }
+    Ok(())
+}
+
+/// Tells the times after 1970 of a list, from its last one on, and then none.
+#[derive(Drop)]
+struct Listed {
+    times: Vec<Option<Duration>>,
+}
+
+impl TimeOfDay for Listed {
+    ghost tells = { λ _ _ _. ⊤ };
+
+    fn tell(&mut self) -> Option<SystemTime> {
+        UNIX_EPOCH.checked_add(self.times.pop()??)
+    }
+}
+
+#[test]
+fn system_clock(rt: HostRuntime) -> Result<(), Fail> {
+    // The last millisecond that 64 bits hold.
+    let last = 9_223_372_036_854_775_807;
+    let rows = [
+        (None, 0),
+        (Some(Duration::from_nanos(2_999_999)), 2),
+        (Some(Duration::from_millis(last)), last),
+        (Some(Duration::from_millis(last + 1)), last),
+        (None, last),
+        (Some(Duration::from_nanos(1_999_999)), 1),
+        (None, 1),
+    ];
+    let mut times = Vec::new(rt.alloc());
+    for (time, _) in rows.iter().rev() {
+        times.push(*time)?;
+    }
+    let mut clock = SystemClock::new(Listed { times });
+    for (time, reading) in rows {
+        assert_eq!(rt; clock.now_ms().unsigned_abs(), reading, "{time:?}");
     }
     Ok(())
 }
