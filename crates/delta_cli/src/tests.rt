@@ -38,17 +38,21 @@ const TIME_END: &str = "{\"base\":0,\"last\":9223372036854775807,\"reply\":\"tim
 const AT_TIME_END: &str =
     "{\"base\":null,\"reply\":\"committed\",\"time\":9223372036854775807,\"version\":0}\n";
 
+/// 64 bytes, so that 16,384 of them are as long as a line may be.
+const SPACES: &str = "                                                                ";
+
 const FIRST_FILE: &str = "00000000000000000000.json";
 
 const SECOND_FILE: &str = "00000000000000000001.json";
 
-/// What a run is made of: its store, the numbers of the reads and of the writes that fail, and its clock.
+/// What a run is made of: its store, the numbers of the reads and of the writes that fail, its clock and its ids.
 #[derive(Drop)]
 struct Plan {
     store: MemStore,
     reads: Vec<u64>,
     writes: Vec<u64>,
     clock: FixedClock,
+    ids: ListIds,
 }
 
 /// What a run answered: its status, what it wrote, and the store that it left.
@@ -59,13 +63,14 @@ struct Answer {
     store: MemStore,
 }
 
-/// A run over an empty store at 1000, of which nothing fails.
+/// A run over an empty store at 1000, with ids from 1, of which nothing fails.
 fn plain(alloc: Global) -> Plan {
     Plan {
         store: MemStore::new(alloc, Vec::new(alloc)),
         reads: Vec::new(alloc),
         writes: Vec::new(alloc),
         clock: FixedClock::new(1000),
+        ids: ListIds::from(alloc, 1),
     }
 }
 
@@ -78,18 +83,18 @@ fn text(alloc: Global, parts: &[&str]) -> Result<Vec<u8>, AllocError> {
     Ok(all)
 }
 
-/// Runs a word over an input that comes in pieces of 7 bytes, with ids from 1.
+/// Runs a word over an input that comes in pieces of 7 bytes.
 fn ran(alloc: Global, word: &str, input: &[&str], plan: Plan) -> Result<Answer, AllocError> {
     let Plan {
         store,
         reads,
         writes,
         mut clock,
+        mut ids,
     } = plan;
     let words = vec![in alloc; String::from_str(alloc, word)?]?;
     let mut source = MemSource::new(text(alloc, input)?, 7, reads);
     let mut sink = MemSink::new(alloc, writes);
-    let mut ids = ListIds::from(alloc, 1);
     let ended = run(
         alloc,
         words.as_slice(),
@@ -241,6 +246,56 @@ fn the_store_fails(rt: HostRuntime) -> Result<(), Stop> {
             "call {call}"
         );
     }
+    Ok(())
+}
+
+#[test]
+fn a_name_that_a_failed_put_has_left_is_taken(rt: HostRuntime) -> Result<(), Stop> {
+    let alloc = rt.alloc();
+    let mut plan = plain(alloc);
+    // The calls are the listing at the start, the staging of the create, the listing and the reading of the first write, and its staging.
+    plan.store = MemStore::new(
+        alloc,
+        vec![in alloc;
+            Fail {
+                call: 5,
+                took: true
+            },
+        ]?,
+    );
+    plan.ids = ListIds::of(vec![in alloc; 1, 2, 2]?);
+    let answer = ran(alloc, "run", &[CREATE, ADD_A, ADD_A], plan)?;
+    let output = [
+        CREATED,
+        "{\"name\":\"_staged_commits/00000000000000000001.00000000-0000-0000-0000-000000000002.json\",\"reply\":\"fault\"}\n",
+        "{\"base\":0,\"id\":\"00000000-0000-0000-0000-000000000002\",\"reply\":\"taken\",\"version\":1}\n",
+    ];
+    assert!(rt; answer.written.as_slice() == text(alloc, output.as_slice())?.as_slice());
+    assert_eq!(rt; answer.status, Status::Done);
+    Ok(())
+}
+
+/// The part, 16,384 times.
+fn repeat(alloc: Global, part: &'static str) -> Result<Vec<&'static str>, AllocError> {
+    vec![in alloc; part; 16_384]
+}
+
+#[test]
+fn lines_that_ask_for_nothing(rt: HostRuntime) -> Result<(), Stop> {
+    let alloc = rt.alloc();
+    // A line of white space alone that is as long as a line may be, and a line of one byte more.
+    let mut input = repeat(alloc, SPACES)?;
+    input.push("\nnope\n[]\n{\"op\":\"fly\"}\n{\"op\":\"load\",\"version\":-1}\n")?;
+    input.append(&mut repeat(alloc, SPACES)?)?;
+    input.push(" \n")?;
+    let output = [
+        "{\"at\":2,\"reply\":\"badLine\",\"why\":\"notJson\"}\n",
+        "{\"at\":3,\"reply\":\"badLine\",\"why\":\"notObject\"}\n",
+        "{\"at\":4,\"reply\":\"badLine\",\"why\":\"op\"}\n",
+        "{\"at\":5,\"field\":\"version\",\"reply\":\"badLine\",\"why\":\"field\"}\n",
+        "{\"at\":6,\"reply\":\"badLine\",\"why\":\"tooLong\"}\n",
+    ];
+    assert!(rt; replies(alloc, input.as_slice(), output.as_slice())?);
     Ok(())
 }
 

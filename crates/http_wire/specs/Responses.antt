@@ -1,7 +1,7 @@
 -- The bytes of a response.
 use Rattle.std.specs.Prelude.{ℕ, Bool, List, [], ◌++◌, ◌==◌, length, codes, decimal, if◌then◌else◌}
 
--- the reason phrases (RFC 9110, section 15); another status has none
+-- the reason phrases (RFC 9110, section 15; of 429 and 431 RFC 6585, sections 4 and 5); another status has none
 unfoldable pub reason : ℕ → List ℕ
 reason status =
     if status == 200 then codes "OK"

@@ -12,7 +12,7 @@ use lake_io::{Sink, WriteFault, put_all};
 /// No head of a response is longer.
 const HEAD_ROOM: usize = 192;
 
-/// The reason phrase of a status, by RFC 9110, section 15. Statuses that are not answered have none.
+/// The reason phrase of a status, by RFC 9110, section 15, and RFC 6585, sections 4 and 5. Statuses that are not answered have none.
 #[tactic(auto, unfolding(crate::specs::Responses::reason))]
 fn reason_of(status: u16) -> &'static str
     ensures text { result.now ≡ reason status }

@@ -1,5 +1,5 @@
 //! Says of each line of standard input what it is as a commit text: the number of its actions and its canonical text, or its
-//! first flaw. In a line `@` stands for a commitInfo line with its LF, and `^` for an LF.
+//! first flaw. In a line `@` stands for a commitInfo line with its LF, `^` for an LF, and `~` for the byte 255.
 //! With any argument the whole input is one text, and the number of its actions or the line of its first flaw is said, and how
 //! many microseconds its reading took.
 #![tactic(auto)]

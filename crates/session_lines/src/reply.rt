@@ -55,7 +55,7 @@ pub enum Reply {
     Full {
         latest: u64,
     },
-    /// The base has the last time that there is.
+    /// The last commit has the last time that there is, in milliseconds since 1970 UTC.
     TimeEnd {
         base: u64,
         last: i64,

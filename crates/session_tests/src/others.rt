@@ -81,6 +81,28 @@ pub const ALTERS: Commit = Commit {
     ),
 };
 
+/// Version 2 changes the metadata.
+pub const ALTERS_LATER: Commit = Commit {
+    version: 2,
+    time: 1002,
+    text: concat!(
+        "{\"commitInfo\":{\"inCommitTimestamp\":1002,\"txnId\":\"00000000-0000-0000-0000-000000000100\"}}\n",
+        "{\"metaData\":{\"configuration\":{\"delta.enableInCommitTimestamps\":\"true\"},\"createdTime\":1000,",
+        "\"format\":{\"options\":{},\"provider\":\"parquet\"},\"id\":\"t1\",\"partitionColumns\":[],",
+        "\"schemaString\":\"{\\\"type\\\":\\\"struct\\\",\\\"fields\\\":[]}\"}}\n"
+    ),
+};
+
+/// Version 3 records number 0 of the application `A`.
+pub const RECORDS_LATER: Commit = Commit {
+    version: 3,
+    time: 1003,
+    text: concat!(
+        "{\"commitInfo\":{\"inCommitTimestamp\":1003,\"txnId\":\"00000000-0000-0000-0000-000000000100\"}}\n",
+        "{\"txn\":{\"appId\":\"A\",\"version\":0}}\n"
+    ),
+};
+
 /// The commit of version 0 that the session makes, under the id 1.
 pub const FIRST: &str = concat!(
     "{\"commitInfo\":{\"inCommitTimestamp\":1000,\"txnId\":\"00000000-0000-0000-0000-000000000001\"}}\n",

@@ -26,6 +26,10 @@ pub const OF_ITS_APPLICATION: &str =
 pub const OF_THE_METADATA: &str =
     "{\"base\":0,\"key\":\"\",\"latest\":1,\"reply\":\"conflict\",\"rule\":\"metadata\",\"winner\":1}\n";
 
+/// Of versions 1 to 3 the second is the first that conflicts.
+pub const OF_THE_SECOND: &str =
+    "{\"base\":0,\"key\":\"\",\"latest\":3,\"reply\":\"conflict\",\"rule\":\"metadata\",\"winner\":2}\n";
+
 /// Number 1 is recorded at version 1.
 pub const SAME_NUMBER: &str = "{\"latest\":1,\"recorded\":1,\"reply\":\"already\"}\n";
 
