@@ -1,5 +1,5 @@
 -- How a run ends, and by what.
-use Rattle.std.specs.Prelude.{◌≡◌, ◌<◌, ◌⊎◌, ℕ, Bool, IsTrue, ⊤}
+use Rattle.std.specs.Prelude.{◌≡◌, ◌<◌, ◌⊎◌, ℕ, Bool, IsTrue, List, codes, ⊤}
 use Rattle.lake_io.specs.declared.answers.End.{End}
 use Rattle.lake_io.specs.declared.answers.End.TheVariants as end
 use Rattle.table_model.specs.Knowledge.{Knowledge}
@@ -19,6 +19,17 @@ code_of status.WriteFault = 4
 code_of status.StoreFault = 5
 code_of status.NotEmpty = 6
 code_of status.TooMuch = 8
+
+-- what a status says in words
+abbrev pub meaning_of : Status → List ℕ
+meaning_of status.Done = codes "done"
+meaning_of status.Usage = codes "usage"
+meaning_of status.Memory = codes "want of memory"
+meaning_of status.ReadFault = codes "read fault"
+meaning_of status.WriteFault = codes "write fault"
+meaning_of status.StoreFault = codes "store fault"
+meaning_of status.NotEmpty = codes "folder not empty"
+meaning_of status.TooMuch = codes "too much input"
 
 -- the ends of a session that a status names; two come before there is one
 abbrev pub IsStatusOf : End → Status → Type 0

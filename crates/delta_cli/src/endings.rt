@@ -1,5 +1,5 @@
 ghost use Rattle.std.specs.Prelude.{◌≡◌};
-ghost use Rattle.delta_cli.specs.Endings.{code_of};
+ghost use Rattle.delta_cli.specs.Endings.{code_of, meaning_of};
 
 use object_store::Store;
 use table_world::World;
@@ -43,7 +43,9 @@ impl Status {
     }
 
     /// The meaning of a status in words.
-    pub fn meaning(self) -> &'static str {
+    pub fn meaning(self) -> &'static str
+        ensures { result.now ≡ meaning_of self }
+    {
         match self {
             Status::Done => "done",
             Status::Usage => "usage",

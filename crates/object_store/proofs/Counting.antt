@@ -53,7 +53,7 @@ pub delete_counts : (m : MemData) (name : List ℕ) (r : Result Gone StoreError)
 delete_counts m name (Ok gone.Done) n h = same_count m _ n h.1
 delete_counts m name (Ok gone.Absent) n h = same_count m _ n h.1
 delete_counts m name (Err Failed) n h = one_fault m _ n h
-delete_counts m name (Err Memory) n h = unchanged m n h
+delete_counts m name (Err Memory) n h = unchanged m n h.1
 
 pub delete_last : (m : MemData) (name : List ℕ) (r : Result Gone StoreError) (n : MemData) → MemDeletes m name r n → IsLast m.faults → r ≡ Err Memory
 delete_last m name (Ok gone.Done) n h last = let fits : m.faults + 1 < 2 ^ 64 = h.1.counted in absurd (omega arith)

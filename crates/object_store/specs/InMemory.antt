@@ -1,6 +1,7 @@
 -- The store in memory: which of its calls fail, and what each call answers and leaves.
 use Rattle.std.specs.Prelude.{◌≡◌, ℕ, ◌+◌, ◌-◌, ◌^◌, ◌<◌, min, cond, IsSome, List, Option, None, Some, Result, Ok, Err, ◌==◌, find}
 use Rattle.object_store.specs.Files.{Files, file_of, with_file, without_file, names_of, put_whole}
+use Rattle.object_store.specs.Telling.{IsLast}
 use Rattle.object_store.specs.declared.store.Put.{Put}
 use Rattle.object_store.specs.declared.store.Put.TheVariants as put
 use Rattle.object_store.specs.declared.store.Bytes.{Bytes}
@@ -61,9 +62,9 @@ abbrev pub MemListFails : MemData → StoreError → MemData → Type 0
 MemListFails m Failed n = Fails m m.files n
 MemListFails m Memory n = n ≡ m
 
--- removing a file
+-- removing a file. It takes no memory, and is refused for want of it only where the count of faults can't rise
 abbrev pub MemDeletes : MemData → List ℕ → Result Gone StoreError → MemData → Type 0
 MemDeletes m name (Ok gone.Done) n = IsSome (file_of m.files name) × Passes m (without_file m.files name) n
 MemDeletes m name (Ok gone.Absent) n = (file_of m.files name ≡ None) × Passes m m.files n
 MemDeletes m name (Err Failed) n = Fails m (without_file m.files name) n
-MemDeletes m name (Err Memory) n = n ≡ m
+MemDeletes m name (Err Memory) n = IsLast m.faults × (n ≡ m)

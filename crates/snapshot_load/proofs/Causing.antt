@@ -8,7 +8,7 @@ use Rattle.table_model.specs.declared.answers.Spot.TheVariants as spot
 use Rattle.table_model.specs.declared.answers.StepFault.{StepFault}
 use Rattle.table_model.specs.declared.answers.StepFault.TheVariants as step
 use Rattle.table_model.specs.Knowledge.{Knowledge, IsGrown}
-use Rattle.table_model.specs.Learning.{IsFaultAt, fault_noted, AbsentLearnt}
+use Rattle.table_model.specs.Learning.{IsFaultAt, IsOnlyMemory, fault_noted, AbsentLearnt}
 use Rattle.snapshot_load.specs.declared.errors.LoadError.{LoadError}
 use Rattle.snapshot_load.specs.declared.errors.LoadError.TheVariants.{NoTable, AfterLatest, BeforeFirst, Fault, Memory}
 use Rattle.snapshot_load.specs.Causes.{FailedAt, IsUntold, ReadCause, LoadCause}
@@ -66,7 +66,12 @@ load_cause tells NoTable j k m g some h = absurd h
 load_cause tells (AfterLatest version latest) j k m g some h = h
 load_cause tells (BeforeFirst first latest) j k m g some h = h
 load_cause tells (Fault at) j k m g some h = (cause_later tells (Fault at) j k m g h, some)
-load_cause tells Memory j k m g some h = tt
+load_cause tells Memory j k m g some h = λ asked. some
+
+-- the catalogue was not asked
+pub asking_refused : (tells : Bool) (k : Knowledge) (f : StepFault) (m : Knowledge) → IsOnlyMemory k f m → LoadCause tells (of_fault f) k m
+asking_refused tells k (step.Fault at) m h = absurd h
+asking_refused tells k step.Memory m h = λ asked. (let same = ap (λ (x : Knowledge). x.asks) h in absurd (omega (arith, same, asked)))
 
 -- what was seen is not fewer later
 pub seen_more : (k m : Knowledge) → IsGrown k m → length k.seen ≤ length m.seen

@@ -37,13 +37,14 @@ ReadCause tells (BeforeFirst first latest) k m = ⊥
 ReadCause tells (Fault at) k m = FaultCause tells at k m
 ReadCause tells Memory k m = Unit {0}
 
--- a load of the last version: `NoTable` where its catalogue turn found no commit, a fault where it found one
+-- a load of the last version: `NoTable` where its catalogue turn found no commit; a fault where it found one; want of memory before that turn, or where
+-- it found one
 abbrev pub LoadCause : Bool → LoadError → Knowledge → Knowledge → Type 0
 LoadCause tells NoTable k m = m.seen ≡ []
 LoadCause tells (AfterLatest version latest) k m = ⊥
 LoadCause tells (BeforeFirst first latest) k m = ⊥
 LoadCause tells (Fault at) k m = FaultCause tells at k m × (0 < length m.seen)
-LoadCause tells Memory k m = Unit {0}
+LoadCause tells Memory k m = k.asks < m.asks → 0 < length m.seen
 
 -- a fact of every answer but want of memory
 abbrev pub UnlessMemory : {A : Type 0} → Result A LoadError → Type 0 → Type 0

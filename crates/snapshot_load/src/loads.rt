@@ -46,7 +46,7 @@ fn replay<T: Steps>(
 ///
 /// `NoTable` comes exactly where the catalogue turn finds no commit. Of a table that has one the load fails only on a
 /// fault of the store, which is named by its spot, or for want of memory; over a store that does not tell what it holds
-/// also where the file of a version is absent or has no commit in it.
+/// also where the file of a version is absent or has no commit in it. `Memory` may also come before that turn.
 pub fn load<T: Steps>(caller: &mut T, alloc: Global) -> Result<Snapshot, LoadError>
     ensures loaded { IfOk result (IsSnapshot T.tells (T.known caller.new).seen) }
     ensures newest { IfOk result (λ s. s.version ≡ s.latest) }

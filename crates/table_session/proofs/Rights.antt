@@ -75,7 +75,7 @@ memory_right tells k line reading last (Ok (request.Create what)) e = right_for 
 memory_right tells k line reading last (Ok (request.Write intent)) e = right_for tells k (moment line reply.Memory k reading last) (Ok (request.Write intent)) e (grows_refl k) tt refl (memory_gains tells k)
 memory_right tells k line reading last (Ok request.Load) e =
     let turns : OnlyLoads 1 (length k.seen) k k = loads_none 1 (length k.seen) k k refl in
-    right_for tells k (moment line reply.Memory k reading last) (Ok request.Load) e (grows_refl k) tt (record { asked = tt; turns = turns; newest = tt; cause = tt }) (memory_gains tells k)
+    right_for tells k (moment line reply.Memory k reading last) (Ok request.Load) e (grows_refl k) tt (record { asked = tt; turns = turns; newest = tt; cause = λ asked. absurd (omega (arith, asked)) }) (memory_gains tells k)
 
 refused : (tells : Bool) (k : Knowledge) (line : Numbered) (number : ℕ) (b : BadLine) (reading : ℤ) (last : ℕ) → number ≡ line.at
     → asked_by line ≡ request_of line.text → Gives told (λ r. r) (Err b) (request_of line.text) → IsRight tells k (moment line (refusal_reply number b) k reading last)
@@ -118,7 +118,7 @@ load_own tells (Err (load.BeforeFirst first latest)) k m loaded cause asked turn
 load_own tells (Err (load.Fault at)) k m loaded cause asked turns =
     let P : Spot → Type 0 = λ s. LoadCause tells (load.Fault s) k m in
     record { asked = asked; turns = turns; newest = tt; cause = subst P (sym (spot_of-file_of at)) cause }
-load_own tells (Err load.Memory) k m loaded cause asked turns = record { asked = asked; turns = turns; newest = tt; cause = tt }
+load_own tells (Err load.Memory) k m loaded cause asked turns = record { asked = asked; turns = turns; newest = tt; cause = cause }
 
 length_grown : (k m : Knowledge) → IsGrown k m → length k.seen ≤ length m.seen
 length_grown k m g = length_longer k.seen m.seen g.seen

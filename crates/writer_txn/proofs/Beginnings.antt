@@ -68,6 +68,7 @@ loaded_underway lists versions latest k m asked only g last =
       mine = ap (λ (x : Knowledge). x.mine) only.same;
       tries = record { rest = []; is = ap (λ (x : Knowledge). x.tries) only.same ∙ sym (append-nil k.tries) };
       count = refl;
+      first = sym last;
       rising = λ i j d less within. absurd (omega (arith, within));
       tries_below = All-nil (λ t. t.version < length m.seen);
       put = record { rest = []; is = ap (λ (x : Knowledge). x.put) only.same ∙ sym (append-nil k.put) };
@@ -97,6 +98,7 @@ load_refused_now tells load.NoTable lists versions k m cause asked only g =
       front_is = record { seen = bounds.0; told = bounds.1; within = omega arith; asked = (let asks = asked.asks in omega (arith, asks)) };
       none = cause;
       mine = ap (λ (x : Knowledge). x.mine) only.same;
+      tries = ap (λ (x : Knowledge). x.tries) only.same;
     }
 load_refused_now tells (load.AfterLatest version latest) lists versions k m cause asked only g = absurd cause
 load_refused_now tells (load.BeforeFirst first latest) lists versions k m cause asked only g = absurd cause

@@ -53,6 +53,7 @@ found_none tells c k m h none =
       front_is = front_at (length m.seen) 0 k m empty (asked_front tells c k m h);
       none = nil_from_length m.seen empty;
       mine = ap (λ (x : Knowledge). x.mine) h.same;
+      tries = ap (λ (x : Knowledge). x.tries) h.same;
     }
 
 -- a catalogue turn that finds commits
@@ -136,6 +137,10 @@ committed_now tells id bytes k j m none h =
     let asks : m.asks ≡ j.asks = ap (λ (x : Knowledge). x.asks) h.same in
     record {
       front_is = none_later k j m none (omega (arith, asks));
+      began = record {
+        tries = record { rest = []; is = ap (λ (x : Knowledge). x.tries) h.same ∙ none.tries ∙ sym (append-nil k.tries) };
+        first = refl;
+      };
       last = (let e = ap length first in omega (arith, e));
       mine = ap (λ (x : Knowledge). x.mine) h.same ∙ ap (λ (l : List ℕ). l ++ 0 ∷ []) none.mine;
     }
@@ -158,15 +163,20 @@ lost_now id latest bytes k j m none h =
 pub not_full : (id latest : ℕ) (bytes : List ℕ) (j m : Knowledge) → j.seen ≡ [] → IsRefusedFull 0 id latest bytes j m → ⊥
 not_full id latest bytes j m none h = (let e = ap length none in let last = h.last in omega (arith, e, last))
 
-none_kept : (k j m : Knowledge) → FindsNone k j → m.seen ≡ j.seen → m.mine ≡ j.mine → m.asks ≡ j.asks → FindsNone k m
-none_kept k j m h seen mine asks = record { front_is = none_later k j m h (omega (arith, asks)); none = seen ∙ h.none; mine = mine ∙ h.mine }
+none_kept : (k j m : Knowledge) → FindsNone k j → m.seen ≡ j.seen → m.mine ≡ j.mine → m.tries ≡ j.tries → m.asks ≡ j.asks → FindsNone k m
+none_kept k j m h seen mine tries asks = record {
+  front_is = none_later k j m h (omega (arith, asks));
+  none = seen ∙ h.none;
+  mine = mine ∙ h.mine;
+  tries = tries ∙ h.tries;
+}
 
 -- the name was taken
 pub taken_now : (tells : Bool) (c : Commits) (id : ℕ) (k j m : Knowledge) → CommitsLearnt tells k c j → FindsNone k j
     → m ≡ record j { takens = j.takens ++ name.Staged 0 id ∷ [] } → IsTaken None 0 id k m
 taken_now tells c id k j m asked none e =
     let stays : FindsNone k m =
-    none_kept k j m none (ap (λ (x : Knowledge). x.seen) e) (ap (λ (x : Knowledge). x.mine) e) (ap (λ (x : Knowledge). x.asks) e) in
+    none_kept k j m none (ap (λ (x : Knowledge). x.seen) e) (ap (λ (x : Knowledge). x.mine) e) (ap (λ (x : Knowledge). x.tries) e) (ap (λ (x : Knowledge). x.asks) e) in
     record {
       from = stays;
       next = sym (ap length stays.none);

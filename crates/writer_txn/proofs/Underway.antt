@@ -43,7 +43,7 @@ use Rattle.writer_txn.specs.Converting.{of_fault}
 use Rattle.writer_txn.specs.Refusing.{of_compose}
 use Rattle.writer_txn.specs.Fronts.{before, above, IsNewer}
 use Rattle.writer_txn.specs.Writing.{WriteStands, IsLaterCommit, IsNewerAt}
-use Rattle.writer_txn.specs.Moments.{IsFront, IsCommitted, NamesLatest, NamesBase, ConflictsNow, IsContended, IsFull, IsTaken, WrittenNow}
+use Rattle.writer_txn.specs.Moments.{IsFront, IsFirstFront, first_tried, IsCommitted, NamesLatest, NamesBase, ConflictsNow, IsContended, IsFull, IsTaken, WrittenNow}
 use Rattle.writer_txn.specs.Proposing.{HasRoom, IsRatified, HasLost, IsRefusedFull, HasStopped}
 use Rattle.writer_txn.specs.Judging.{CaughtNow, LeavesOwn}
 use Rattle.writer_txn.specs.Trying.{IsFrontOf, IsUnderway, GoesOn, AttemptNow}
@@ -108,7 +108,7 @@ above_limit : (terms : Option Terms) (limits : Limits) (tells : Bool) (bytes : �
 above_limit terms limits tells bytes e more = subst (λ (o : Option Terms). IfSome o (λ t. t.limits.bytes < bytes)) (sym e) more
 
 base_now : (base tried : ℕ) (k m : Knowledge) → IsUnderway base tried k m → NamesBase base k m
-base_now base tried k m u = record { front_is = u.front_is; mine = u.mine }
+base_now base tried k m u = record { front_is = u.front_is; began = record { tries = u.tries; first = u.first }; mine = u.mine }
 
 pub refused_write_now : (tells : Bool) (base tried : ℕ) (limits : Limits) (k m : Knowledge) (e : ComposeError) → IsUnderway base tried k m
     → m.terms ≡ Some (record { limits = limits; tells = tells }) → HasPassed limits.bytes e → WrittenNow tells (Err (of_compose base e)) k m
@@ -193,10 +193,22 @@ latest_now base tried latest k j m u g mine e =
     let front : IsFront (base + 1) k m = front_later (base + 1) k j m u.front_is g in
     record { front_is = latest_front base latest k m front front.within e; last = e; mine = mine ∙ u.mine }
 
+-- where the tries stay, so does the first of them
+began_later : (base tried next : ℕ) (k j m : Knowledge) → IsUnderway base tried k j → m.tries ≡ j.tries → next ≡ length j.seen → IsFirstFront (base + 1) next k m
+began_later base tried next k j m u same at = record {
+  tries = record { rest = u.tries.rest; is = same ∙ u.tries.is };
+  first = ap (λ (n : ℕ). first_tried u.tries.rest n) at ∙ u.first;
+}
+
+first_pushed : (tries : List Try) (t : Try) (n : ℕ) → first_tried (tries ++ t ∷ []) n ≡ first_tried tries t.version
+first_pushed [] t n = refl
+first_pushed (a ∷ tries) t n = refl
+
 pub written_now : (tells : Bool) (base tried version id : ℕ) (bytes : List ℕ) (k j m : Knowledge) → IsUnderway base tried k j → IsGrown j m → version ≡ length j.seen
     → IsRatified tells version id bytes j m → IsCommitted (base + 1) version k m
 written_now tells base tried version id bytes k j m u g at done = record {
   front_is = front_later (base + 1) k j m u.front_is g;
+  began = began_later base tried version k j m u (ap (λ (x : Knowledge). x.tries) done.same) at;
   last = (let total : length m.seen ≡ length j.seen + 1 = ap length done.seen ∙ length-append j.seen (record { id = id; bytes = done.text } ∷ []) in omega (arith, at, total));
   mine = ap (λ (x : Knowledge). x.mine) done.same ∙ ap (λ (l : List ℕ). l ++ version ∷ []) u.mine;
 }
@@ -222,7 +234,11 @@ pub name_taken : (base tried version id : ℕ) (k j m : Knowledge) → IsUnderwa
 name_taken base tried version id k j m u g at e =
     let seen : m.seen ≡ j.seen = ap (λ (x : Knowledge). x.seen) e in
     record {
-      from = record { front_is = front_later (base + 1) k j m u.front_is g; mine = ap (λ (x : Knowledge). x.mine) e ∙ u.mine };
+      from = record {
+        front_is = front_later (base + 1) k j m u.front_is g;
+        began = began_later base tried (length m.seen) k j m u (ap (λ (x : Knowledge). x.tries) e) (ap length seen);
+        mine = ap (λ (x : Knowledge). x.mine) e ∙ u.mine;
+      };
       next = at ∙ sym (ap length seen);
       takens = record {
         rest = u.grows.takens.rest ++ name.Staged version id ∷ [];
@@ -291,6 +307,7 @@ lost_tries base tried version id latest bytes k j p m u g at lost own longer =
             ∙ append_assoc k.tries u.tries.rest (t ∷ []);
       };
       count = length-append u.tries.rest (t ∷ []) ∙ ap (λ (n : ℕ). n + 1) u.count;
+      first = first_pushed u.tries.rest t (length m.seen) ∙ ap (λ (n : ℕ). first_tried u.tries.rest n) at ∙ u.first;
       rising = all_pairs_push (λ earlier later. earlier.version < later.version) u.tries.rest t u.rising
           (λ i d within. (let h = u.tries_below i d within in omega (arith, h, at)));
       tries_below = pushed_try u.tries.rest t (length j.seen) (length m.seen) at longer u.tries_below;
@@ -329,9 +346,11 @@ caught_attempt tells base tried version id latest bytes k j p m (Err (failed.Bro
 caught_attempt tells base tried version id latest bytes k j p m (Err (failed.Conflict b winner rule key l)) u g h at lost own caught =
     let mine : m.mine ≡ j.mine = own.mine ∙ ap (λ (x : Knowledge). x.mine) lost.same in
     let all : IsGrown j m = grows_trans j p m g h in
+    let longer : length j.seen < length m.seen = (let a = lost.last in let b = lost.later in let c = length_kept p.seen m.seen h.seen in omega (arith, a, b, c, at)) in
+    let next : IsUnderway base (tried + 1) k m = lost_tries base tried version id latest bytes k j p m u all at lost own longer in
     subst (λ (n : ℕ). ConflictsNow n l k m) (sym caught.base_is)
     (let now : ConflictsNow base l k m = record {
-      from = record { front_is = front_later (base + 1) k j m u.front_is all; mine = mine ∙ u.mine };
+      from = base_now base (tried + 1) k m next;
       to = latest_now base tried l k j m u all mine caught.newest;
     } in now)
 caught_attempt tells base tried version id latest bytes k j p m (Err (failed.Contended attempts l)) u g h at lost own caught = absurd caught

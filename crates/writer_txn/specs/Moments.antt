@@ -3,6 +3,7 @@ use Rattle.std.specs.Prelude.{◌≡◌, ◌<◌, ◌≤◌, ◌+◌, ◌++◌, 
 use Rattle.std.specs.List.{AllPairs}
 use Rattle.log_names.specs.declared.LogName.TheVariants as name
 use Rattle.table_model.specs.declared.answers.Spot.{Spot}
+use Rattle.table_model.specs.declared.known.Try.{Try}
 use Rattle.table_model.specs.Knowledge.{Knowledge, StartsWith}
 use Rattle.table_model.specs.Conditions.{triple}
 use Rattle.snapshot_load.specs.Causes.{FaultCause}
@@ -19,9 +20,20 @@ pub record IsFront (front : ℕ) (k m : Knowledge) : Type 0 where
   pub within : front ≤ length m.seen
   pub asked : k.asks < m.asks
 
+-- the version of the first try, where some were refused, else this one
+abbrev pub first_tried : List Try → ℕ → ℕ
+first_tried [] version = version
+first_tried (t ∷ tries) version = t.version
+
+-- The write began at this front: the version of the first try that was refused in this call, or the next version where none was.
+pub record IsFirstFront (front next : ℕ) (k m : Knowledge) : Type 0 where
+  pub tries : StartsWith m.tries k.tries
+  pub first : first_tried tries.rest next ≡ front
+
 -- the version is the last one, and the caller's own
 pub record IsCommitted (front version : ℕ) (k m : Knowledge) : Type 0 where
   pub front_is : IsFront front k m
+  pub began : IsFirstFront front version k m
   pub last : version + 1 ≡ length m.seen
   pub mine : m.mine ≡ k.mine ++ version ∷ []
 
@@ -34,13 +46,15 @@ pub record NamesLatest (latest : ℕ) (k m : Knowledge) : Type 0 where
 -- the base was the last version when the table was loaded
 pub record NamesBase (base : ℕ) (k m : Knowledge) : Type 0 where
   pub front_is : IsFront (base + 1) k m
+  pub began : IsFirstFront (base + 1) (length m.seen) k m
   pub mine : m.mine ≡ k.mine
 
--- there is no commit
+-- there is no commit, and no try was refused in this call
 pub record FindsNone (k m : Knowledge) : Type 0 where
   pub front_is : IsFront 0 k m
   pub none : m.seen ≡ []
   pub mine : m.mine ≡ k.mine
+  pub tries : m.tries ≡ k.tries
 
 -- the base of a write; a create has none
 abbrev pub StopsAt : Option ℕ → Knowledge → Knowledge → Type 0

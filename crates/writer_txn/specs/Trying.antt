@@ -8,7 +8,7 @@ use Rattle.snapshot_load.specs.Reading.{KeepsBelow}
 use Rattle.table_model.specs.Log.{Commit}
 use Rattle.table_model.specs.Knowledge.{Knowledge, StartsWith, IsGrown}
 use Rattle.writer_txn.specs.Fronts.{before, IsNewer, first_clash}
-use Rattle.writer_txn.specs.Moments.{IsFront, WrittenNow}
+use Rattle.writer_txn.specs.Moments.{IsFront, first_tried, WrittenNow}
 use Rattle.writer_txn.specs.Writing.{WriteStands}
 use Rattle.writer_txn.specs.declared.attempts.Front.{Front}
 use Rattle.writer_txn.specs.declared.attempts.Outcome.{Outcome}
@@ -24,14 +24,15 @@ pub record IsFrontOf (tells : Bool) (intent : Intent) (f : Front) (log : List Co
   pub number : IsTrue tells → IsNewer intent (before (f.latest + 1) log)
   pub conflicts : IsTrue tells → first_clash intent f.base (f.latest + 1) log ≡ None
 
--- So many tries of this call were refused, each at a later version than the one before it, and nothing became the caller's
--- own. What it tried and put, and the staged files that it learnt of, are of versions that are seen now.
+-- So many tries of this call were refused, the first at the version after the base, each at a later one than the one before it, and
+-- nothing became the caller's own. What it tried and put, and the staged files that it learnt of, are of versions that are seen now.
 pub record IsUnderway (base tried : ℕ) (k m : Knowledge) : Type 0 where
   pub grows : IsGrown k m
   pub front_is : IsFront (base + 1) k m
   pub mine : m.mine ≡ k.mine
   pub tries : StartsWith m.tries k.tries
   pub count : length tries.rest ≡ tried
+  pub first : first_tried tries.rest (length m.seen) ≡ base + 1
   pub rising : AllPairs (λ earlier later. earlier.version < later.version) tries.rest
   pub tries_below : All (λ t. t.version < length m.seen) tries.rest
   pub put : StartsWith m.put k.put

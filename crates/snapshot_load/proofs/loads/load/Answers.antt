@@ -5,7 +5,7 @@ use Rattle.std.specs.Prelude.{Contains, unwrap_or}
 use Rattle.log_names.specs.declared.LogName.TheVariants as name
 use Rattle.snapshot_load.specs.Causes.{LoadCause}
 use Rattle.snapshot_load.specs.Converting.{of_fault}
-use Rattle.snapshot_load.proofs.Causing.{load_cause, read_refused, seen_more}
+use Rattle.snapshot_load.proofs.Causing.{asking_refused, load_cause, read_refused, seen_more}
 use Rattle.snapshot_load.proofs.Keeping.{loads_refused, loads_asked, loads_listed, loads_unlisted, loads_read}
 use Rattle.snapshot_load.proofs.Replaying.{seen_same}
 use Rattle.snapshot_load.proofs.Listing.{listed_published}
@@ -13,6 +13,12 @@ use Rattle.table_model.proofs.Growing.{grows_trans}
 use Rattle.table_model.specs.Knowledge.{Knowledge}
 use Rattle.snapshot_load.proofs.Loaded.{is_snapshot}
 use Rattle.snapshot_load.proofs.loads.load.Goals as goal
+
+pub returns-in_err-commits-clause-cause : goal.returns-in_err-commits-clause-cause
+returns-in_err-commits-clause-cause g c =
+    let i : LoadCause g.T.Steps.tells (of_fault c.in_err-commits.field-0.0) (g.T.Steps.known c.args.caller.now) (g.T.Steps.known c.commits.new.self) =
+    asking_refused g.T.Steps.tells (g.T.Steps.known c.args.caller.now) c.in_err-commits.field-0.0 (g.T.Steps.known c.commits.new.self) c.in_err-commits.ensures.learns in
+    search rules
 
 pub returns-in_err-names-clause-cause : goal.returns-in_err-names-clause-cause
 returns-in_err-names-clause-cause g c =
