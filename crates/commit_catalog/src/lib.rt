@@ -215,6 +215,3 @@ impl Catalog {
 pub fn ratify_has_one_answer()
     ensures { HasOneAnswer }
 {}
-
-#[cfg(test)]
-mod tests;

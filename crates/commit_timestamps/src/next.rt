@@ -22,26 +22,3 @@ pub fn next_time(last: Option<i64>, now: i64) -> Result<i64, TimeEnd>
         Some(last) => Ok(now.max(last + 1)),
     }
 }
-
-#[cfg(test)]
-mod tests {
-    use super::*;
-
-    #[test]
-    fn gives_the_next_time(rt: HostRuntime) {
-        let end = TimeEnd { last: i64::MAX };
-        let rows = [
-            (None, 1000, Ok(1000)),
-            (None, i64::MAX, Ok(i64::MAX)),
-            (Some(1000), 0, Ok(1001)),
-            (Some(1000), 1000, Ok(1001)),
-            (Some(1000), 1001, Ok(1001)),
-            (Some(1000), 2000, Ok(2000)),
-            (Some(i64::MAX - 1), 5, Ok(i64::MAX)),
-            (Some(i64::MAX), 5, Err(end)),
-        ];
-        for (last, now, want) in rows {
-            assert!(rt; next_time(last, now) == want, "{now}");
-        }
-    }
-}

@@ -11,6 +11,3 @@ pub use clash::{Clash, Lowest, Rule};
 pub use conflict::{first_conflict, first_conflict_of, the_lowest_is_named};
 pub use files::{Adds, Removes};
 pub use intent::{Change, Intent, Level, Reads};
-
-#[cfg(test)]
-mod tests;

@@ -4,8 +4,6 @@
 mod endings;
 mod running;
 mod settling;
-#[cfg(test)]
-mod tests;
 mod words;
 
 pub use endings::{Ended, Status};

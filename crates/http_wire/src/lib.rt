@@ -12,6 +12,3 @@ pub use laws::{bytes_are_cut_in_one_way, the_request_at_the_front_is_the_first};
 pub use request::{Request, WireError};
 pub use response::put_response;
 pub use wire::{Wire, WireState};
-
-#[cfg(test)]
-mod tests;

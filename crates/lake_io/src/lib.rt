@@ -18,6 +18,3 @@ pub use input::{MemSource, Source, StdSource};
 pub use law::lines_are_cut_at_lf;
 pub use output::{MemSink, Sink, StdSink, put_all};
 pub use reader::{InputState, Line, LineError, Lines, MAX_INPUT, MAX_LINE};
-
-#[cfg(test)]
-mod tests;

@@ -335,15 +335,3 @@ fn read_piece<S: Source>(
 {
     read_front(source, piece.as_mut_slice(), room)
 }
-
-#[cfg(test)]
-impl Lines {
-    /// A reader that has taken so many bytes, and handed no line of them.
-    pub fn having_read(alloc: Global, read: u64) -> Result<Lines, AllocError>
-        requires { read ≤ 4294967296 }
-    {
-        let mut lines = Lines::new(alloc)?;
-        lines.read = read;
-        Ok(lines)
-    }
-}

@@ -25,17 +25,3 @@ pub fn lesser<'a>(best: Option<&'a str>, name: &'a str) -> Option<&'a str>
 pub fn the_least_is_least()
     ensures { (names : List (List ℕ)) → MatchOption (least names) (names ≡ []) (λ name. IsLeast names name) }
 {}
-
-#[cfg(test)]
-mod tests {
-    use super::*;
-
-    #[test]
-    fn least_of_names(rt: HostRuntime) {
-        let mut best = None;
-        for name in ["b", "a/b", "a", "aa", "B", "é"] {
-            best = lesser(best, name);
-        }
-        assert_eq!(rt; best, Some("B"));
-    }
-}

@@ -51,6 +51,3 @@ impl LogName {
         }
     }
 }
-
-#[cfg(test)]
-mod tests;

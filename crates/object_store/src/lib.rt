@@ -10,6 +10,3 @@ mod store;
 pub use memory::MemStore;
 pub use plan::Fail;
 pub use store::{Bytes, Gone, Put, Store, StoreError};
-
-#[cfg(test)]
-mod tests;

@@ -10,6 +10,3 @@ mod walks;
 pub use laws::{a_log_has_one_state, walks_list_the_replay};
 pub use state::State;
 pub use walks::{FileWalk, GoneWalk, TxnWalk};
-
-#[cfg(test)]
-mod tests;

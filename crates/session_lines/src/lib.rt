@@ -19,6 +19,3 @@ pub use reading::read_request;
 pub use reply::Reply;
 pub use request::Request;
 pub use writing::reply_text;
-
-#[cfg(test)]
-mod tests;

@@ -1,4 +1,4 @@
-//! Tests of a session beside other callers, whose turns come between its own.
+//! Tests of the lines of a session, of runs, and of a session beside other callers, whose turns come between its own.
 //! There is no code here.
 #![tactic(auto)]
 
@@ -8,6 +8,10 @@ mod others;
 mod races;
 #[cfg(test)]
 mod replies;
+#[cfg(test)]
+mod runs;
+#[cfg(test)]
+mod session_texts;
 #[cfg(test)]
 mod sessions;
 #[cfg(test)]

@@ -39,6 +39,3 @@ pub fn check_create(alloc: Global, actions: &[Action]) -> Result<(), Broken>
     let state = State::empty(alloc);
     check_next(alloc, &state, actions)
 }
-
-#[cfg(test)]
-mod tests;

@@ -1,0 +1,198 @@
+//! Commits in short: an action is a few words, actions stand with a `;` between them, and commits with a `/` between them.
+
+use action_types::{Action, Add, Format, Info, Meta, Name, Names, Pairs, Protocol, Remove, Txn};
+use reconcile::State;
+use std::alloc::Global;
+use std::test::Fail;
+
+/// The words of a text as a list of names.
+pub fn names(alloc: Global, text: &str) -> Result<Names, Fail> {
+    let mut list = Names::new(alloc);
+    for word in text.split_whitespace() {
+        list.push(Name::from_str(alloc, word)?)?;
+    }
+    Ok(list)
+}
+
+/// A protocol of these versions and features.
+pub fn protocol(
+    alloc: Global,
+    versions: (i64, i64),
+    readers: &str,
+    writers: &str,
+) -> Result<Protocol, Fail> {
+    Ok(Protocol {
+        reader: versions.0,
+        writer: versions.1,
+        reader_features: Some(names(alloc, readers)?),
+        writer_features: Some(names(alloc, writers)?),
+    })
+}
+
+/// Adds a property that is `true`.
+fn switch_on(alloc: Global, pairs: &mut Pairs, name: &str) -> Result<(), Fail> {
+    let on = Name::from_str(alloc, "true")?;
+    pairs.push(Name::from_str(alloc, name)?, Some(on))?;
+    Ok(())
+}
+
+/// The properties: `off` lacks that of in-commit timestamps.
+fn configuration(alloc: Global, form: &str) -> Result<Pairs, Fail> {
+    let mut pairs = Pairs::new(alloc);
+    if form == "appendOnly" {
+        switch_on(alloc, &mut pairs, "delta.appendOnly")?;
+    }
+    if form != "off" {
+        switch_on(alloc, &mut pairs, "delta.enableInCommitTimestamps")?;
+    }
+    Ok(pairs)
+}
+
+fn schema(form: &str) -> &'static str {
+    if form == "invariants" {
+        "{\"delta.invariants\":{}}"
+    } else {
+        "{\"type\":\"struct\",\"fields\":[]}"
+    }
+}
+
+fn parquet(alloc: Global) -> Result<Format, Fail> {
+    let provider = Name::from_str(alloc, "parquet")?;
+    Ok(Format {
+        provider,
+        options: Pairs::new(alloc),
+    })
+}
+
+/// A metaData, with a partition column where its form is `columns`.
+pub fn meta(alloc: Global, form: &str, column: &str) -> Result<Meta, Fail> {
+    let configuration = configuration(alloc, form)?;
+    let format = parquet(alloc)?;
+    let id = Name::from_str(alloc, "t1")?;
+    let columns = names(alloc, if form == "columns" { column } else { "" })?;
+    let schema = Name::from_str(alloc, schema(form))?;
+    Ok(Meta {
+        configuration,
+        created: None,
+        description: None,
+        format,
+        id,
+        name: None,
+        columns,
+        schema,
+    })
+}
+
+/// An add of a file of so many bytes.
+pub fn add(alloc: Global, path: &str, size: i64) -> Result<Add, Fail> {
+    let path = Name::from_str(alloc, path)?;
+    Ok(Add {
+        change: true,
+        modified: 5,
+        values: Pairs::new(alloc),
+        path,
+        size,
+        stats: None,
+        tags: None,
+    })
+}
+
+/// An add of a file of 10 bytes, with a value for a column if one is named.
+fn add_with(alloc: Global, path: &str, column: &str) -> Result<Add, Fail> {
+    let mut add = add(alloc, path, 10)?;
+    if !column.is_empty() {
+        add.values.push(Name::from_str(alloc, column)?, None)?;
+    }
+    Ok(add)
+}
+
+/// A remove of a file, at a time if one is given.
+pub fn remove(alloc: Global, path: &str, deleted: Option<i64>) -> Result<Remove, Fail> {
+    let path = Name::from_str(alloc, path)?;
+    Ok(Remove {
+        change: true,
+        deleted,
+        extended: None,
+        values: None,
+        path,
+        size: None,
+    })
+}
+
+/// The number that a word writes.
+fn number(word: &str) -> i64 {
+    word.parse::<i64>().unwrap_or(0)
+}
+
+/// A file action: `add` and `same` of a file (without a change), `remove` and `keep` (without one).
+fn file_action(alloc: Global, kind: &str, path: &str, more: &str) -> Result<Action, Fail> {
+    match kind {
+        "add" => Ok(Action::Add(add_with(alloc, path, more)?)),
+        "same" => {
+            let mut add = add_with(alloc, path, more)?;
+            add.change = false;
+            Ok(Action::Add(add))
+        }
+        "keep" => {
+            let mut remove = remove(alloc, path, None)?;
+            remove.change = false;
+            Ok(Action::Remove(remove))
+        }
+        _ => Ok(Action::Remove(remove(alloc, path, None)?)),
+    }
+}
+
+/// A protocol with one more writer feature than a table needs, if one is named.
+fn table_protocol(alloc: Global, feature: &str) -> Result<Protocol, Fail> {
+    let writers = format!(in alloc; "catalogManaged inCommitTimestamp {feature}")?;
+    protocol(alloc, (3, 7), "catalogManaged", writers.as_str())
+}
+
+/// The action that a few words name.
+fn action(alloc: Global, text: &str) -> Result<Action, Fail> {
+    let mut words = text.split_whitespace();
+    let kind = words.next().unwrap_or("");
+    let first = words.next().unwrap_or("");
+    let second = words.next().unwrap_or("");
+    match kind {
+        "info" => Ok(Action::Info(Info {
+            time: number(first),
+            txn_id: None,
+        })),
+        "protocol" => Ok(Action::Protocol(table_protocol(alloc, first)?)),
+        "meta" => Ok(Action::Meta(meta(alloc, first, second)?)),
+        "txn" => Ok(Action::Txn(Txn {
+            app: Name::from_str(alloc, first)?,
+            updated: None,
+            number: number(second),
+        })),
+        _ => file_action(alloc, kind, first, second),
+    }
+}
+
+/// The actions that a text names.
+pub fn commit(alloc: Global, text: &str) -> Result<Vec<Action>, Fail> {
+    let mut actions = Vec::new(alloc);
+    for part in text.split(';') {
+        if !part.is_empty() {
+            actions.push(action(alloc, part)?)?;
+        }
+    }
+    Ok(actions)
+}
+
+/// The state after one more commit.
+pub fn applied(alloc: Global, state: State, text: &str) -> Result<State, Fail> {
+    let commit = commit(alloc, text)?;
+    Ok(state.apply(commit.as_slice())?)
+}
+
+/// The state of one or two commits.
+pub fn state(alloc: Global, text: &str) -> Result<State, Fail> {
+    let first = text.split('/').next().unwrap_or("");
+    let state = applied(alloc, State::empty(alloc), first)?;
+    match text.split_once('/') {
+        Some((_, second)) => applied(alloc, state, second),
+        None => Ok(state),
+    }
+}
