@@ -1,8 +1,7 @@
 //! The few calls on a folder that a store over a directory stands on.
 
 ghost use Rattle.std.specs.Prelude.{Ok, Err, MatchResult, is_ok};
-ghost use Rattle.object_store.specs.Directory.{Call};
-ghost use Rattle.object_store.specs.Directory.Call.{makes, links, drops, syncs, reads, removes, lists};
+ghost use Rattle.object_store.specs.Directory.{Call, makes, links, drops, syncs, reads, removes, lists};
 
 use crate::store::{Bytes, Gone, Put, StoreError};
 use action_types::Name;
