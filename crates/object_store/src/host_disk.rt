@@ -1,9 +1,8 @@
 //! The calls on a folder by the runtime's files.
 
-ghost use Rattle.std.specs.Prelude.{◌≡◌, ◌≢◌, ◌≤◌, ◌++◌, length, string_bytes, is_ok, if◌then◌else◌, IfOk, IfErr, IsOk, OnOk, ⊤};
+ghost use Rattle.std.specs.Prelude.{◌≡◌, ◌≢◌, ◌≤◌, ◌++◌, length, string_bytes, is_ok, if◌then◌else◌, IfOk, IfErr, IsErr, IsOk, OnOk, ⊤};
 ghost use Rattle.std.specs.Io.KnownBytes.{Appends};
-ghost use Rattle.std_io.specs.IoError.{error_kind};
-ghost use Rattle.object_store.specs.declared.disk.DiskFault.{DiskFault};
+ghost use Rattle.std.specs.IoError.{error_kind};
 ghost use Rattle.object_store.specs.declared.disk.Made.TheVariants as made;
 ghost use Rattle.object_store.specs.declared.store.Put.TheVariants as put;
 ghost use Rattle.object_store.specs.declared.store.Gone.TheVariants as gone;
@@ -239,7 +238,7 @@ fn made_by(written: io::Result<()>) -> Made
 fn linked_by(linked: io::Result<()>) -> Result<Put, DiskFault>
     ensures done { IsOk linked → result ≡ Ok put.Done }
     ensures there { IfErr linked (λ e. error_kind e ≡ ErrorKind.AlreadyExists → result ≡ Ok put.There) }
-    ensures failed { IfErr linked (λ e. error_kind e ≢ ErrorKind.AlreadyExists → result ≡ Err (record {})) }
+    ensures failed { IfErr linked (λ e. error_kind e ≢ ErrorKind.AlreadyExists → IsErr result) }
 {
     match linked {
         Ok(()) => Ok(Put::Done),
@@ -252,7 +251,7 @@ fn linked_by(linked: io::Result<()>) -> Result<Put, DiskFault>
 fn removed_by(removed: io::Result<()>) -> Result<Gone, DiskFault>
     ensures done { IsOk removed → result ≡ Ok gone.Done }
     ensures absent { IfErr removed (λ e. error_kind e ≡ ErrorKind.NotFound → result ≡ Ok gone.Absent) }
-    ensures failed { IfErr removed (λ e. error_kind e ≢ ErrorKind.NotFound → result ≡ Err (record {})) }
+    ensures failed { IfErr removed (λ e. error_kind e ≢ ErrorKind.NotFound → IsErr result) }
 {
     match removed {
         Ok(()) => Ok(Gone::Done),
