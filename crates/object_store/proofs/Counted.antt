@@ -89,18 +89,18 @@ list_last did items s (Err Memory) t h last = refl
 -- ---- a store that does not tell
 
 pub untold_put : (name content : List ℕ) (r : Result Put StoreError) → PutAnswers false no_files name content r no_files
-untold_put name content (Ok put.Done) = record { absent = λ tells. absurd tells; files = refl }
-untold_put name content (Ok put.There) = record { there = λ tells. absurd tells; files = refl }
+untold_put name content (Ok put.Done) = record { absent = λ tells. cc; files = refl }
+untold_put name content (Ok put.There) = record { there = λ tells. cc; files = refl }
 untold_put name content (Err Failed) = inl refl
 untold_put name content (Err Memory) = refl
 
 pub untold_get : (name : List ℕ) (r : Result Bytes StoreError) → GetAnswers false no_files name r
-untold_get name (Ok (bytes.Whole content)) = λ tells. absurd tells
-untold_get name (Ok bytes.Absent) = λ tells. absurd tells
+untold_get name (Ok (bytes.Whole content)) = λ tells. cc
+untold_get name (Ok bytes.Absent) = λ tells. cc
 untold_get name (Err e) = tt
 
 pub untold_delete : (name : List ℕ) (r : Result Gone StoreError) → DeleteAnswers false no_files name r no_files
-untold_delete name (Ok gone.Done) = record { there = λ tells. absurd tells; files = refl }
-untold_delete name (Ok gone.Absent) = record { absent = λ tells. absurd tells; files = refl }
+untold_delete name (Ok gone.Done) = record { there = λ tells. cc; files = refl }
+untold_delete name (Ok gone.Absent) = record { absent = λ tells. cc; files = refl }
 untold_delete name (Err Failed) = inl refl
 untold_delete name (Err Memory) = refl

@@ -1,6 +1,6 @@
 //! The calls on a folder by the runtime's files.
 
-ghost use Rattle.std.specs.Prelude.{◌≡◌, ◌≢◌, ◌≤◌, ◌++◌, length, string_bytes, is_ok, if◌then◌else◌, IfOk, IfErr, IsErr, IsOk, OnOk, ⊤};
+ghost use Rattle.std.specs.Prelude.{◌≡◌, ◌≢◌, ◌≤◌, ◌^◌, ◌++◌, length, string_bytes, is_ok, if◌then◌else◌, IfOk, IfErr, IsErr, IsOk, OnOk, ⊤};
 ghost use Rattle.std.specs.Io.KnownBytes.{Appends};
 ghost use Rattle.std.specs.IoError.{error_kind};
 ghost use Rattle.object_store.specs.declared.disk.Made.TheVariants as made;

@@ -84,7 +84,8 @@ impl Shelf {
         ensures { OnOk result (self.new ≡ with_file self.old name.now []) }
     {
         let key = String::from_str(alloc, name)?;
-        self.entries.insert(key, Vec::new(alloc))?;
+        let value = Vec::new(alloc);
+        self.entries.insert(key, value)?;
         Ok(())
     }
 
