@@ -1,8 +1,11 @@
 -- What each call of a store over a directory says of its count of faults, and of the files that it does not tell.
-use Rattle.std.proofs.Common.{◌≡◌, ℕ, ◌+◌, ◌<◌, ◌^◌, ◌⊎◌, inl, inr, List, false, refl, ap, arith}
+use Rattle.std.proofs.Common.{◌≡◌, ℕ, ◌+◌, ◌<◌, ◌^◌, ◌⊎◌, inl, inr, List, false, refl, sym, subst, ap, arith}
 use Rattle.std.specs.Prelude.{Result, Ok, Err, MatchResult}
-use Rattle.object_store.specs.Directory.{Call, DirData, Barred, faults_after, DirPuts, DirGets, DirDeletes, DirLists, DirListFails}
+use Rattle.object_store.specs.Directory.{Call, DirData, Admits, Barred, PutRuns, faults_after, DirPuts, DirGets, DirDeletes, DirLists, DirListFails}
 use Rattle.object_store.specs.Files.{no_files}
+use Rattle.object_store.specs.InMemory.{one_more}
+use Rattle.object_store.specs.declared.disk.DiskFault.{DiskFault}
+use Rattle.object_store.specs.declared.disk.Folder.{Folder}
 use Rattle.object_store.specs.Telling.{CountsFault, IsLast, PutAnswers, GetAnswers, DeleteAnswers}
 use Rattle.object_store.specs.declared.store.Put.{Put}
 use Rattle.object_store.specs.declared.store.Put.TheVariants as put
@@ -73,18 +76,42 @@ delete_last did s name r t h last = elim h [
 pub list_counts : {A D : Type 0} (did : D → Call → D → Type 0) (items : A → List (List ℕ)) (s : DirData D) (r : Result A StoreError) (t : DirData D) → MatchResult r (λ names. DirLists did s (items names) t) (λ e. DirListFails did s e t) → CountsFault s.faults r t.faults
 list_counts did items s (Ok names) t h = h.faults
 list_counts did items s (Err Failed) t h =
-    let rises : t.faults ≡ s.faults + 1 = h.faults in
+    let rises : t.faults ≡ s.faults + 1 = h.count in
     let fits : s.faults + 1 < 2 ^ 64 = h.counted in
     (omega (arith, rises), omega (arith, rises, fits))
 list_counts did items s (Err Memory) t h = elim h [
   | inl same ↦ ap (λ d. d.faults) same.1
-  | inr m ↦ m.faults
+  | inr m ↦ m.count
 ]
 
 pub list_last : {A D : Type 0} (did : D → Call → D → Type 0) (items : A → List (List ℕ)) (s : DirData D) (r : Result A StoreError) (t : DirData D) → MatchResult r (λ names. DirLists did s (items names) t) (λ e. DirListFails did s e t) → IsLast s.faults → r ≡ Err Memory
 list_last did items s (Ok names) t h last = not_last s.faults (Ok names) h.counted last
 list_last did items s (Err Failed) t h last = not_last s.faults (Err Failed) h.counted last
 list_last did items s (Err Memory) t h last = refl
+
+-- ---- a put that fails
+
+abbrev dir_of : {D : Type 0} → D → ℕ → ℕ → DirData D
+dir_of d n f = record { disk = d; next = n; faults = f }
+
+put_failed : {D : Type 0} (did : D → Call → D → Type 0) (d : D) (n f : ℕ) (name content : List ℕ) (folder : Folder) (fault : DiskFault) (d' : D)
+    → Admits (dir_of d n f) name folder → PutRuns did d folder n name content (Err fault) d' → DirPuts did (dir_of d n f) name content (Err Failed) (dir_of d' (one_more n) (f + 1))
+put_failed did d n f name content folder fault d' admits runs =
+    inr (record { folder = folder; admits = admits; answer = Err fault; runs = runs; result_is = refl; next = refl; faults = refl })
+
+pub put_fails : {D : Type 0} (did : D → Call → D → Type 0) (s : DirData D) (d : D) (n f : ℕ) (name content : List ℕ) (folder : Folder) (fault : DiskFault) (d' : D) (m : ℕ) (e : StoreError) (t : DirData D)
+    → dir_of d n f ≡ s → Admits s name folder → PutRuns did d folder n name content (Err fault) d' → m ≡ one_more n → e ≡ Failed → t ≡ dir_of d' m (f + 1)
+    → DirPuts did s name content (Err e) t
+put_fails {D} did s d n f name content folder fault d' m e t is admits runs number failed after =
+    let A : DirData D → Type 0 = λ x. Admits x name folder in
+    let S : DirData D → Type 0 = λ x. DirPuts did x name content (Err e) t in
+    let E : StoreError → Type 0 = λ x. DirPuts did (dir_of d n f) name content (Err x) t in
+    let T : DirData D → Type 0 = λ x. DirPuts did (dir_of d n f) name content (Err Failed) x in
+    let N : ℕ → Type 0 = λ x. DirPuts did (dir_of d n f) name content (Err Failed) (dir_of d' x (f + 1)) in
+    let whole : DirPuts did (dir_of d n f) name content (Err Failed) (dir_of d' (one_more n) (f + 1)) =
+    put_failed did d n f name content folder fault d' (subst A (sym is) admits) runs
+    in
+    subst S is (subst E (sym failed) (subst T (sym after) (subst N (sym number) whole)))
 
 -- ---- a store that does not tell
 

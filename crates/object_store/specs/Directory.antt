@@ -1,10 +1,10 @@
 -- A store over a directory: what it asks of the disk, and what it answers by what the disk answered.
 --     Call                                   one call of the disk, with its answer
 --     Runs                                   calls made one after another
---     LinkRuns, PutRuns, DeleteRuns          the calls of the disk in one call of the store, by what these came to
+--     LinkRuns, PutRuns, DeleteRuns, ListRuns, ListFails     the calls of the disk in one call of the store, by what these came to
 --     listed                                 the names of the folder among these, each once, in the order of their bytes
 --     DirPuts, DirGets, DirLists, DirListFails, DirDeletes     one call of the store, exactly
-use Rattle.std.specs.Prelude.{◌≡◌, ◌≢◌, ℕ, ◌+◌, ◌^◌, ◌<◌, Bool, true, false, cond, is_some, ◌⊎◌, List, [], ◌∷◌, Option, Some, None, Result, Ok, Err}
+use Rattle.std.specs.Prelude.{◌≡◌, ℕ, ◌+◌, ◌^◌, ◌<◌, Bool, true, false, cond, is_some, ◌⊎◌, List, [], ◌∷◌, Option, Some, None, Result, Ok, Err}
 use Rattle.object_store.specs.Files.{Files, no_files, with_file, names_of}
 use Rattle.object_store.specs.FolderNames.{folder_of}
 use Rattle.object_store.specs.InMemory.{one_more}
@@ -86,6 +86,15 @@ listed_files (name ∷ names) = cond (is_some (folder_of name)) (with_file (list
 abbrev pub listed : List (List ℕ) → List (List ℕ)
 listed names = names_of (listed_files names)
 
+-- listing: of all names that the disk told, those of the folder
+abbrev pub ListRuns : {D : Type 0} → (D → Call → D → Type 0) → D → List (List ℕ) → D → Type 0
+ListRuns did old names new = (all : List (List ℕ)) × did old (lists (Ok all)) new × (names ≡ listed all)
+
+-- the disk failed; or memory ran out, in the disk or for the names that it told
+abbrev pub ListFails : {D : Type 0} → (D → Call → D → Type 0) → D → StoreError → D → Type 0
+ListFails did old Failed new = did old (lists (Err Failed)) new
+ListFails did old Memory new = did old (lists (Err Memory)) new ⊎ ((all : List (List ℕ)) × did old (lists (Ok all)) new)
+
 -- A store over a directory: the disk, the number of the next first name, and the number of calls that failed.
 pub record DirData (D : Type 0) : Type 0 where
   pub disk : D
@@ -160,30 +169,19 @@ pub record DirDelete {D : Type 0} (did : D → Call → D → Type 0) (s : DirDa
 abbrev pub DirDeletes : {D : Type 0} → (D → Call → D → Type 0) → DirData D → List ℕ → Result Gone StoreError → DirData D → Type 0
 DirDeletes did s name result t = Barred s name result t ⊎ DirDelete did s name result t
 
--- listing the names: of all names that the disk told, those of the folder
+-- listing the names
 pub record DirLists {D : Type 0} (did : D → Call → D → Type 0) (s : DirData D) (names : List (List ℕ)) (t : DirData D) : Type 0 where
   pub counted : s.faults + 1 < 2 ^ 64
-  pub all : List (List ℕ)
-  pub asked : did s.disk (lists (Ok all)) t.disk
-  pub names_are : names ≡ listed all
+  pub runs : ListRuns did s.disk names t.disk
   pub next : t.next ≡ s.next
   pub faults : t.faults ≡ s.faults
 
--- the disk failed; or memory ran out, in the disk or for the names that it told
-pub record DirListFault {D : Type 0} (did : D → Call → D → Type 0) (s t : DirData D) : Type 0 where
+pub record DirListsNot {D : Type 0} (did : D → Call → D → Type 0) (s : DirData D) (e : StoreError) (faults : ℕ) (t : DirData D) : Type 0 where
   pub counted : s.faults + 1 < 2 ^ 64
-  pub asked : did s.disk (lists (Err Failed)) t.disk
+  pub runs : ListFails did s.disk e t.disk
   pub next : t.next ≡ s.next
-  pub faults : t.faults ≡ s.faults + 1
-
-pub record DirListMemory {D : Type 0} (did : D → Call → D → Type 0) (s t : DirData D) : Type 0 where
-  pub counted : s.faults + 1 < 2 ^ 64
-  pub told : Result (List (List ℕ)) StoreError
-  pub none : told ≢ Err Failed
-  pub asked : did s.disk (lists told) t.disk
-  pub next : t.next ≡ s.next
-  pub faults : t.faults ≡ s.faults
+  pub count : t.faults ≡ faults
 
 abbrev pub DirListFails : {D : Type 0} → (D → Call → D → Type 0) → DirData D → StoreError → DirData D → Type 0
-DirListFails did s Failed t = DirListFault did s t
-DirListFails did s Memory t = (IsLast s.faults × (t ≡ s)) ⊎ DirListMemory did s t
+DirListFails did s Failed t = DirListsNot did s Failed (s.faults + 1) t
+DirListFails did s Memory t = (IsLast s.faults × (t ≡ s)) ⊎ DirListsNot did s Memory s.faults t

@@ -1,12 +1,12 @@
 //! What one call of a store over a directory asks of its disk.
 
-ghost use Rattle.std.specs.Prelude.{◌≡◌, IfOk};
-ghost use Rattle.object_store.specs.Directory.{LinkRuns, PutRuns, DeleteRuns, listed};
+ghost use Rattle.std.specs.Prelude.{◌≡◌, IfOk, MatchResult};
+ghost use Rattle.object_store.specs.Directory.{LinkRuns, PutRuns, DeleteRuns, ListRuns, ListFails, listed};
 
 use crate::disk::{Disk, DiskFault, Folder, Made};
 use crate::folder_names::folder_of;
 use crate::shelf::Shelf;
-use crate::store::{Gone, Put};
+use crate::store::{Gone, Put, StoreError};
 use action_types::Name;
 use std::alloc::{AllocError, Global};
 
@@ -74,8 +74,21 @@ pub(crate) fn delete_file<D: Disk>(
     }
 }
 
+/// The names of files of the two folders, each once, in the order of their bytes.
+pub(crate) fn list_files<D: Disk>(disk: &mut D, alloc: Global) -> Result<Vec<Name>, StoreError>
+    ensures { MatchResult result (λ names. ListRuns D.did disk.old names.items disk.new) (λ e. ListFails D.did disk.old e disk.new) }
+{
+    match disk.names(alloc) {
+        Ok(all) => match sorted_names(alloc, all.as_slice()) {
+            Ok(names) => Ok(names),
+            Err(_) => Err(StoreError::Memory),
+        },
+        Err(e) => Err(e),
+    }
+}
+
 /// The names of files of the two folders among these, each once, in the order of their bytes. The error is want of memory.
-pub(crate) fn sorted_names(alloc: Global, all: &[Name]) -> Result<Vec<Name>, AllocError>
+fn sorted_names(alloc: Global, all: &[Name]) -> Result<Vec<Name>, AllocError>
     ensures { IfOk result (λ names. names.items ≡ listed all.now) }
 {
     let mut shelf = Shelf::new(alloc);

@@ -1,12 +1,12 @@
 //! A store over a directory.
 
-ghost use Rattle.std.specs.Prelude.{◌≡◌, ◌+◌, ◌^◌, ◌<◌, [], false, Err, IfOk, MatchResult};
+ghost use Rattle.std.specs.Prelude.{◌≡◌, ◌+◌, ◌^◌, ◌<◌, ◌↔◌, false, Err, IfOk, IsTrue, MatchResult};
 ghost use Rattle.object_store.specs.Directory.{Admits, Bars, DirPuts, DirGets, DirLists, DirListFails, DirDeletes};
 ghost use Rattle.object_store.specs.Files.{no_files};
 ghost use Rattle.object_store.specs.Telling.{PutAnswers, GetAnswers, ListAnswers, DeleteAnswers, CountsFault, IsLast};
 ghost use Rattle.object_store.specs.declared.store.StoreError.TheVariants.{Failed, Memory};
 
-use crate::asking::{delete_file, put_file, sorted_names};
+use crate::asking::{delete_file, list_files, put_file};
 use crate::disk::{Disk, DiskFault, Folder};
 use crate::folder_names::folder_of;
 use crate::store::{Bytes, Gone, Put, Store, StoreError};
@@ -51,6 +51,14 @@ impl<D: Disk + Drop> DirStore<D> {
         self.faults
     }
 
+    /// Whether the count of faults stands at its last value.
+    fn is_spent(&self) -> bool
+        ensures spent { IsTrue result ↔ IsLast self.now.faults }
+        ensures free { result ≡ false → self.now.faults + 1 < 2 ^ 64 }
+    {
+        self.faults == u64::MAX
+    }
+
     /// Counts a call that failed.
     fn fail(&mut self) -> StoreError
         requires { self.old.faults + 1 < 2 ^ 64 }
@@ -67,7 +75,7 @@ impl<D: Disk + Drop> DirStore<D> {
         ensures same { IfOk result (λ _. self.new ≡ self.old) }
         ensures bars { MatchResult result (λ _. Unit {0}) (λ e. Bars self.old name.now e self.new) }
     {
-        if self.faults == u64::MAX {
+        if self.is_spent() {
             return Err(StoreError::Memory);
         }
         match folder_of(name.as_bytes()) {
@@ -111,14 +119,11 @@ impl<D: Disk + Drop> DirStore<D> {
     fn names(&mut self, alloc: Global) -> Result<Vec<Name>, StoreError>
         ensures { MatchResult result (λ names. DirLists D.did self.old names.items self.new) (λ e. DirListFails D.did self.old e self.new) }
     {
-        if self.faults == u64::MAX {
+        if self.is_spent() {
             return Err(StoreError::Memory);
         }
-        match self.disk.names(alloc) {
-            Ok(all) => match sorted_names(alloc, all.as_slice()) {
-                Ok(names) => Ok(names),
-                Err(_) => Err(StoreError::Memory),
-            },
+        match list_files(&mut self.disk, alloc) {
+            Ok(names) => Ok(names),
             Err(StoreError::Memory) => Err(StoreError::Memory),
             Err(StoreError::Failed) => Err(self.fail()),
         }

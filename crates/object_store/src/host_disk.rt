@@ -93,11 +93,10 @@ impl<R: Files + AllocGlobal + Clone + Drop> HostDisk<R> {
 
     /// Writes the path of a first name.
     fn set_first(&mut self, folder: Folder, number: u64) -> Result<(), AllocError> {
-        let path = match folder {
-            Folder::Log => &self.log_path,
-            Folder::Staged => &self.staged_path,
-        };
-        join(&mut self.first, path.as_str(), FIRST)?;
+        match folder {
+            Folder::Log => join(&mut self.first, self.log_path.as_str(), FIRST)?,
+            Folder::Staged => join(&mut self.first, self.staged_path.as_str(), FIRST)?,
+        }
         write!(self.first, "{number}")
     }
 
