@@ -1,5 +1,5 @@
 -- What each call of a store over a directory says of its count of faults, and of the files that it does not tell.
-use Rattle.std.proofs.Common.{◌≡◌, ℕ, ◌+◌, ◌<◌, ◌^◌, ◌⊎◌, inl, inr, List, false, refl, sym, subst, ap, arith}
+use Rattle.std.proofs.Common.{◌≡◌, ℕ, ◌+◌, ◌<◌, ◌^◌, inl, inr, List, false, refl, sym, subst, ap, arith}
 use Rattle.std.specs.Prelude.{Result, Ok, Err, MatchResult}
 use Rattle.object_store.specs.Directory.{Call, DirData, Admits, Barred, PutRuns, faults_after, DirPuts, DirGets, DirDeletes, DirLists, DirListFails}
 use Rattle.object_store.specs.Files.{no_files}

@@ -4,7 +4,7 @@
 --     LinkRuns, PutRuns, DeleteRuns, ListRuns, ListFails     the calls of the disk in one call of the store, by what these came to
 --     listed                                 the names of the folder among these, each once, in the order of their bytes
 --     DirPuts, DirGets, DirLists, DirListFails, DirDeletes     one call of the store, exactly
-use Rattle.std.specs.Prelude.{◌≡◌, ℕ, ◌+◌, ◌^◌, ◌<◌, Bool, true, false, cond, is_some, ◌⊎◌, List, [], ◌∷◌, Option, Some, None, Result, Ok, Err}
+use Rattle.std.specs.Prelude.{◌≡◌, ℕ, ◌+◌, ◌^◌, ◌<◌, Bool, true, false, cond, is_some, ◌⊎◌, List, [], ◌∷◌, Some, None, Result, Ok, Err}
 use Rattle.object_store.specs.Files.{Files, no_files, with_file, names_of}
 use Rattle.object_store.specs.FolderNames.{folder_of}
 use Rattle.object_store.specs.InMemory.{one_more}
