@@ -83,9 +83,9 @@ impl Shelf {
     pub(crate) fn set_empty(&mut self, alloc: Global, name: &str) -> Result<(), AllocError>
         ensures { OnOk result (self.new ≡ with_file self.old name.now []) }
     {
-        let key = String::from_str(alloc, name)?;
+        let text = String::from_str(alloc, name)?;
         let value = Vec::new(alloc);
-        self.entries.insert(key, value)?;
+        self.entries.insert(text, value)?;
         Ok(())
     }
 
