@@ -113,3 +113,12 @@ put-held before m n bs bytes key v there e absent is same_key same_bytes h =
     ∙ ap (λ k. with_file before k v.items) same_key
     ∙ ap (with_file before bs) same_bytes
     ∙ ap (λ b. cond b before (with_file before bs bytes)) (sym absent ∙ is)
+
+pub set-held : (before : Files) (m n : BTreeMap (String Global) (Vec ℕ Global)) (bs key : List ℕ) (v : Vec ℕ Global)
+    → held m.entries ≡ before → key ≡ bs → v.items ≡ []
+    → UpdatesBy string_cmp (text_cmp key) m n (Some v) → held n.entries ≡ with_file before bs []
+set-held before m n bs key v e same none h =
+    held-insert m n key v h
+    ∙ ap (λ files. with_file files key v.items) e
+    ∙ ap (λ k. with_file before k v.items) same
+    ∙ ap (with_file before bs) none

@@ -1,3 +1,4 @@
 mod HeldFiles
 mod Counting
+mod Counted
 pub mod FileLaws

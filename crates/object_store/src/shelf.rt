@@ -1,5 +1,5 @@
-ghost use Rattle.std.specs.Prelude.{◌≡◌, if◌then◌else◌, IfOk, OnOk, OnErr, option_map};
-ghost use Rattle.object_store.specs.Files.{no_files, file_of, stands, without_file, names_of, put_whole};
+ghost use Rattle.std.specs.Prelude.{◌≡◌, [], if◌then◌else◌, IfOk, OnOk, OnErr, option_map};
+ghost use Rattle.object_store.specs.Files.{no_files, file_of, stands, with_file, without_file, names_of, put_whole};
 
 use action_types::Name;
 use std::alloc::{AllocError, Global};
@@ -77,6 +77,16 @@ impl Shelf {
             return Ok(());
         }
         self.put(alloc, name, bytes)
+    }
+
+    /// Puts a file without bytes, in place of one that stands. The error is want of memory.
+    pub(crate) fn set_empty(&mut self, alloc: Global, name: &str) -> Result<(), AllocError>
+        ensures { OnOk result (self.new ≡ with_file self.old name.now []) }
+    {
+        let text = String::from_str(alloc, name)?;
+        let value = Vec::new(alloc);
+        self.entries.insert(text, value)?;
+        Ok(())
     }
 
     /// Removes the file of that name, if it stands.

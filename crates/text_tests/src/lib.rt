@@ -1,4 +1,4 @@
-//! Tests of the outside and of texts: streams, lines, clocks and ids, stores, the catalogue, names of files, requests over HTTP, and
+//! Tests of the outside and of texts: streams, lines, clocks and ids, stores (over a directory in `folders`), the catalogue, names of files, requests over HTTP, and
 //! made scripts.
 //! There is no code here.
 #![tactic(auto)]
@@ -8,9 +8,13 @@ mod catalogues;
 #[cfg(test)]
 mod file_names;
 #[cfg(test)]
+mod folders;
+#[cfg(test)]
 mod http_requests;
 #[cfg(test)]
 mod scripts;
+#[cfg(test)]
+mod small_files;
 #[cfg(test)]
 mod stores;
 #[cfg(test)]
