@@ -24,28 +24,45 @@ fn new_store(rt: HostRuntime, path: &str) -> io::Result<DirStore<HostDisk<HostRu
     DirStore::open(rt, rt.alloc(), path)
 }
 
-/// What each call answers of a name: of the reading its length, `-` where the name does not stand.
-fn answers<S: Store>(alloc: Global, store: &mut S, name: &str) -> io::Result<String> {
-    let mut said = String::new(alloc);
-    said.push_str(match store.get(alloc, name) {
-        Ok(Bytes::Whole(bytes)) if bytes.len() == 2 => "two bytes, ",
-        Ok(Bytes::Whole(_)) => "other bytes, ",
+fn read_said(read: Result<Bytes, StoreError>) -> &'static str {
+    match read {
+        Ok(Bytes::Whole(bytes)) => {
+            if bytes.len() == 2 {
+                "two bytes, "
+            } else {
+                "other bytes, "
+            }
+        }
         Ok(Bytes::Absent) => "absent, ",
         Err(StoreError::Failed) => "fault, ",
         Err(StoreError::Memory) => "memory, ",
-    })?;
-    said.push_str(match store.put_new(alloc, name, b"ab") {
+    }
+}
+
+fn put_said(put: Result<Put, StoreError>) -> &'static str {
+    match put {
         Ok(Put::Done) => "put, ",
         Ok(Put::There) => "there, ",
         Err(StoreError::Failed) => "fault, ",
         Err(StoreError::Memory) => "memory, ",
-    })?;
-    said.push_str(match store.delete(alloc, name) {
+    }
+}
+
+fn delete_said(gone: Result<Gone, StoreError>) -> &'static str {
+    match gone {
         Ok(Gone::Done) => "gone",
         Ok(Gone::Absent) => "absent",
         Err(StoreError::Failed) => "fault",
         Err(StoreError::Memory) => "memory",
-    })?;
+    }
+}
+
+/// What each call answers of a name: a reading, a put of two bytes, and a deletion.
+fn answers<S: Store>(alloc: Global, store: &mut S, name: &str) -> io::Result<String> {
+    let mut said = String::new(alloc);
+    said.push_str(read_said(store.get(alloc, name)))?;
+    said.push_str(put_said(store.put_new(alloc, name, b"ab")))?;
+    said.push_str(delete_said(store.delete(alloc, name)))?;
     Ok(said)
 }
 
