@@ -6,19 +6,21 @@ use Rattle.std.specs.Cmp.Lexicographic.{slice_cmp}
 use Rattle.std.specs.List.{list_all}
 use Rattle.std.specs.Option.{option_map_or}
 use Rattle.std.specs.Ordering.{match_ordering}
+use Rattle.std.specs.Result.{result_ok}
 use Rattle.serde_json.specs.Data.{Data, null, boolean, number, string, array, object, Members, no_members, member}
 use Rattle.serde_json.specs.Find.{get, get_member, as_null, as_str, as_object}
 use Rattle.action_types.specs.declared.actions.Action.{Action}
 use Rattle.action_types.specs.declared.actions.Action.TheVariants as action
 use Rattle.action_types.specs.declared.actions.Format.{Format}
+use Rattle.action_types.specs.declared.actions.Vector.{Vector}
 use Rattle.action_fields.specs.declared.kind.Kind.{Kind}
 use Rattle.action_fields.specs.declared.kind.Kind.TheVariants as kind
-use Rattle.action_fields.specs.Bodies.{or_fault, required, optional, or_empty, if_given, info, protocol, meta, txn, remove, add, fields_of, body_of}
+use Rattle.action_fields.specs.Bodies.{or_fault, required, optional, or_empty, if_given, vector_of, vector, info, protocol, meta, txn, domain, remove, add, fields_of, body_of}
 use Rattle.action_fields.specs.Canonical.{kind_of}
 use Rattle.action_fields.specs.Gives.{◌>>=◌}
 use Rattle.action_fields.specs.Ordered.{names_of, is_below, are_rising, is_ordered, members_are_ordered}
 use Rattle.action_fields.specs.Types.{Pair, unless_null, given, text, integer, if_from_zero, from_zero, flag, path, if_not_empty, names, value_in, pairs_in, pairs, options, format}
-use Rattle.action_fields.specs.Valid.{is_from_zero, is_not_empty, are_in_order, are_texts, has_valid_fields}
+use Rattle.action_fields.specs.Valid.{is_from_zero, is_not_empty, are_in_order, are_texts, is_valid_vector, has_valid_fields}
 
 -- ---- what a result holds
 
@@ -223,6 +225,31 @@ all_or : {W : Type 0} (test : W → Bool) (o : Option W) → Has (λ w. test w �
 all_or test None h = refl
 all_or test (Some w) h = h
 
+-- ---- deletion vectors
+
+abbrev ValidVector : Vector → Type 0
+ValidVector w = is_valid_vector w ≡ true
+
+ok_keeps : {A F : Type 0} (Q : A → Type 0) (r : Result A F) → Keeps Q r → Has Q (result_ok r)
+ok_keeps Q (Ok a) h = h.kept
+ok_keeps Q (Err e) h = tt
+
+vector_of-keeps : (d : Data) → Ordered d → Keeps ValidVector (vector_of d)
+unfolding vector_of
+vector_of-keeps d h =
+    then_keeps FromZero (required-keeps from_zero FromZero (λ e x. from_zero_gives e) (codes "cardinality") d h) (λ cardinality c.
+    then_keeps (Optional FromZero) (optional-keeps from_zero FromZero (λ e x. from_zero_gives e) (codes "offset") d h) (λ offset o.
+    then_any (required text (codes "pathOrInlineDv") d) (λ locator.
+    then_keeps FromZero (required-keeps from_zero FromZero (λ e x. from_zero_gives e) (codes "sizeInBytes") d h) (λ size s.
+    then_any (required text (codes "storageType") d) (λ storage.
+    let found : Vector = record { storage = storage; locator = locator; offset = offset; size = size; cardinality = cardinality } in
+    done found
+    (and_from (is_from_zero cardinality && option_map_or is_from_zero offset true) (is_from_zero size)
+    (and_from (is_from_zero cardinality) (option_map_or is_from_zero offset true) c (all_or is_from_zero offset o)) s))))))
+
+vector_gives : (d : Data) → Ordered d → Has ValidVector (vector d)
+vector_gives d h = ok_keeps ValidVector (vector_of d) (vector_of-keeps d h)
+
 -- ---- bodies
 
 abbrev Valid : Action → Type 0
@@ -256,38 +283,51 @@ txn-keeps : (body : Data) → Ordered body → Keeps Valid (txn body)
 unfolding txn has_valid_fields
 txn-keeps body h = then_any (required text (codes "appId") body) (λ app. then_any (optional integer (codes "lastUpdated") body) (λ updated. then_any (required integer (codes "version") body) (λ version. done (action.Txn (record { app = app; updated = updated; number = version })) refl)))
 
+domain-keeps : (body : Data) → Ordered body → Keeps Valid (domain body)
+unfolding domain has_valid_fields
+domain-keeps body h =
+    then_any (required text (codes "configuration") body) (λ configuration.
+    then_keeps NotEmpty (required-keeps path NotEmpty (λ d x. path_gives d) (codes "domain") body h) (λ name n.
+    then_any (required flag (codes "removed") body) (λ removed.
+    done (action.Domain (record { configuration = configuration; domain = name; removed = removed })) n)))
+
 remove-keeps : (body : Data) → Ordered body → Keeps Valid (remove body)
 unfolding remove has_valid_fields
 remove-keeps body h =
     then_any (required flag (codes "dataChange") body) (λ change.
     then_any (optional integer (codes "deletionTimestamp") body) (λ deleted.
+    then_keeps (Optional ValidVector) (optional-keeps vector ValidVector vector_gives (codes "deletionVector") body h) (λ found g.
     then_any (optional flag (codes "extendedFileMetadata") body) (λ extended.
     then_keeps (Optional InOrder) (optional-keeps (pairs true) InOrder (pairs_gives true) (codes "partitionValues") body h) (λ values v.
     then_keeps NotEmpty (required-keeps path NotEmpty (λ d x. path_gives d) (codes "path") body h) (λ file p.
     then_keeps (Optional FromZero) (optional-keeps from_zero FromZero (λ d x. from_zero_gives d) (codes "size") body h) (λ size s.
-    done (action.Remove (record { change = change; deleted = deleted; extended = extended; values = values; path = file; size = size }))
+    done (action.Remove (record { change = change; deleted = deleted; extended = extended; values = values; path = file; size = size; vector = found }))
+    (and_from (option_map_or are_in_order values true && is_not_empty file && option_map_or is_from_zero size true) (option_map_or is_valid_vector found true)
     (and_from (option_map_or are_in_order values true && is_not_empty file) (option_map_or is_from_zero size true)
-    (and_from (option_map_or are_in_order values true) (is_not_empty file) (all_or are_in_order values v) p) (all_or is_from_zero size s))))))))
+    (and_from (option_map_or are_in_order values true) (is_not_empty file) (all_or are_in_order values v) p) (all_or is_from_zero size s)) (all_or is_valid_vector found g)))))))))
 
 add-keeps : (body : Data) → Ordered body → Keeps Valid (add body)
 unfolding add has_valid_fields
 add-keeps body h =
     then_any (required flag (codes "dataChange") body) (λ change.
+    then_keeps (Optional ValidVector) (optional-keeps vector ValidVector vector_gives (codes "deletionVector") body h) (λ found g.
     then_any (required integer (codes "modificationTime") body) (λ modified.
     then_keeps InOrder (required-keeps (pairs true) InOrder (pairs_gives true) (codes "partitionValues") body h) (λ values v.
     then_keeps NotEmpty (required-keeps path NotEmpty (λ d x. path_gives d) (codes "path") body h) (λ file p.
     then_keeps FromZero (required-keeps from_zero FromZero (λ d x. from_zero_gives d) (codes "size") body h) (λ size s.
     then_any (optional text (codes "stats") body) (λ stats.
     then_keeps (Optional InOrder) (optional-keeps (pairs true) InOrder (pairs_gives true) (codes "tags") body h) (λ tags t.
-    done (action.Add (record { change = change; modified = modified; values = values; path = file; size = size; stats = stats; tags = tags }))
+    done (action.Add (record { change = change; modified = modified; values = values; path = file; size = size; stats = stats; tags = tags; vector = found }))
+    (and_from (are_in_order values && is_not_empty file && is_from_zero size && option_map_or are_in_order tags true) (option_map_or is_valid_vector found true)
     (and_from (are_in_order values && is_not_empty file && is_from_zero size) (option_map_or are_in_order tags true)
-    (and_from (are_in_order values && is_not_empty file) (is_from_zero size) (and_from (are_in_order values) (is_not_empty file) v p) s) (all_or are_in_order tags t)))))))))
+    (and_from (are_in_order values && is_not_empty file) (is_from_zero size) (and_from (are_in_order values) (is_not_empty file) v p) s) (all_or are_in_order tags t)) (all_or is_valid_vector found g))))))))))
 
 fields-keep : (k : Kind) (body : Data) → Ordered body → Keeps Valid (fields_of k body)
 fields-keep kind.Info body h = info-keeps body h
 fields-keep kind.Protocol body h = protocol-keeps body h
 fields-keep kind.Meta body h = meta-keeps body h
 fields-keep kind.Txn body h = txn-keeps body h
+fields-keep kind.Domain body h = domain-keeps body h
 fields-keep kind.Remove body h = remove-keeps body h
 fields-keep kind.Add body h = add-keeps body h
 fields-keep kind.CheckpointMetadata body h = record { kept = tt }

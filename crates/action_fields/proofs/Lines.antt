@@ -12,11 +12,12 @@ use Rattle.serde_json.specs.Written.{comma_if, compact_text, items_text, members
 use Rattle.action_types.specs.declared.actions.Action.{Action}
 use Rattle.action_types.specs.declared.actions.Action.TheVariants as action
 use Rattle.action_types.specs.declared.actions.Format.{Format}
-use Rattle.action_fields.specs.Canonical.{Fields, with_field, with_fields, integer_data, texts_items, names_data, value_data, pairs_members, pairs_data, format_fields, format_data, body_data, action_fields, action_data, canonical_line}
-use Rattle.action_fields.specs.Fits.{Fits, FitsIfGiven, HasFittingFields}
+use Rattle.action_types.specs.declared.actions.Vector.{Vector}
+use Rattle.action_fields.specs.Canonical.{Fields, with_field, with_fields, integer_data, texts_items, names_data, value_data, pairs_members, pairs_data, format_fields, format_data, vector_fields, vector_data, body_data, action_fields, action_data, canonical_line}
+use Rattle.action_fields.specs.Fits.{Fits, FitsIfGiven, VectorFits, VectorFitsIfGiven, HasFittingFields}
 use Rattle.action_fields.specs.Ordered.{names_of, is_below, are_rising}
 use Rattle.action_fields.specs.Types.{Pair}
-use Rattle.action_fields.specs.Valid.{is_from_zero, is_not_empty, are_in_order, are_texts, has_valid_fields}
+use Rattle.action_fields.specs.Valid.{is_from_zero, is_not_empty, are_in_order, are_texts, is_valid_vector, has_valid_fields}
 use Rattle.action_fields.proofs.Again.{IsSound, ItemsAreSound, MembersAreSound, IsSound-integer, read-compact_text}
 use Rattle.action_fields.proofs.OneLine.{IsOneLine, one_line-literal, one_line-quoted}
 use Rattle.action_fields.proofs.Rising.{below_all}
@@ -111,11 +112,17 @@ fine_object n fs rising h = record { sound = (rising-with_fields fs rising, soun
 
 -- ---- the types of fields
 
+fine_integer_at : (n : ℕ) (z : ℤ) → Fits z → IsFine n (integer_data z)
+fine_integer_at n z h = record { sound = IsSound-integer z h; shallow = omega arith }
+
 fine_integer : (z : ℤ) → Fits z → IsFine 2 (integer_data z)
-fine_integer z h = record { sound = IsSound-integer z h; shallow = omega arith }
+fine_integer z h = fine_integer_at 2 z h
+
+fine_string_at : (n : ℕ) (s : List ℕ) → IsFine n (string s)
+fine_string_at n s = record { sound = tt; shallow = omega arith }
 
 fine_string : (s : List ℕ) → IsFine 2 (string s)
-fine_string s = record { sound = tt; shallow = omega arith }
+fine_string s = fine_string_at 2 s
 
 fine_flag : (b : Bool) → IsFine 2 (boolean b)
 fine_flag b = record { sound = tt; shallow = omega arith }
@@ -170,13 +177,25 @@ made : {W : Type 0} (make : W → Data) (o : Option W) → ((w : W) → IsFine 2
 made make None h = tt
 made make (Some w) h = h w
 
+made_integer_at : (n : ℕ) (o : Option ℤ) → FitsIfGiven o → IfSome (option_map integer_data o) (IsFine n)
+made_integer_at n None h = tt
+made_integer_at n (Some z) h = fine_integer_at n z h
+
 made_integer : (o : Option ℤ) → FitsIfGiven o → IfSome (option_map integer_data o) (IsFine 2)
-made_integer None h = tt
-made_integer (Some z) h = fine_integer z h
+made_integer o h = made_integer_at 2 o h
 
 made_pairs : (o : Option (List Pair)) → option_map_or are_in_order o true ≡ true → IfSome (option_map pairs_data o) (IsFine 2)
 made_pairs None h = tt
 made_pairs (Some ps) h = fine_pairs ps h
+
+fine_vector : (w : Vector) → VectorFits w → IsFine 2 (vector_data w)
+fine_vector w h =
+    fine_object 1 (vector_fields w) refl
+    (fine_integer_at 1 w.cardinality h.0 ▸ made_integer_at 1 w.offset h.1 ▸ fine_string_at 1 w.locator ▸ fine_integer_at 1 w.size h.2 ▸ fine_string_at 1 w.storage ▸ tt)
+
+made_vector : (o : Option Vector) → VectorFitsIfGiven o → IfSome (option_map vector_data o) (IsFine 2)
+made_vector None h = tt
+made_vector (Some w) h = fine_vector w h
 
 in_order : (ps : List Pair) → are_texts ps ≡ true → are_in_order ps ≡ true
 in_order ps h = (and_parts (are_in_order ps) (list_all (λ (p : Pair). is_some p.1) ps) h).0
@@ -193,17 +212,20 @@ fine_body (action.Meta w) valid fits =
     let both = and_parts (are_texts w.configuration) (are_texts w.format.options) valid in
     fine_object 2 (action_fields true (action.Meta w)) refl (fine_pairs w.configuration (in_order w.configuration both.0) ▸ made_integer w.created fits ▸ made string w.description fine_string ▸ fine_format w.format (in_order w.format.options both.1) ▸ fine_string w.id ▸ made string w.name fine_string ▸ fine_names w.columns ▸ fine_string w.schema ▸ tt)
 fine_body (action.Txn w) valid fits = fine_object 2 (action_fields true (action.Txn w)) refl (fine_string w.app ▸ made_integer w.updated fits.0 ▸ fine_integer w.number fits.1 ▸ tt)
+fine_body (action.Domain w) valid fits = fine_object 2 (action_fields true (action.Domain w)) refl (fine_string w.configuration ▸ fine_string w.domain ▸ fine_flag w.removed ▸ tt)
 fine_body (action.Remove w) valid fits =
-    let front = and_parts (option_map_or are_in_order w.values true && is_not_empty w.path) (option_map_or is_from_zero w.size true) valid in
+    let parts = and_parts (option_map_or are_in_order w.values true && is_not_empty w.path && option_map_or is_from_zero w.size true) (option_map_or is_valid_vector w.vector true) valid in
+    let front = and_parts (option_map_or are_in_order w.values true && is_not_empty w.path) (option_map_or is_from_zero w.size true) parts.0 in
     let values = (and_parts (option_map_or are_in_order w.values true) (is_not_empty w.path) front.0).0 in
     fine_object 2 (action_fields true (action.Remove w)) refl
-    (fine_flag w.change ▸ made_integer w.deleted fits.0 ▸ made boolean w.extended fine_flag ▸ made_pairs w.values values ▸ fine_string w.path ▸ made_integer w.size fits.1 ▸ tt)
+    (fine_flag w.change ▸ made_integer w.deleted fits.0 ▸ made_vector w.vector fits.2 ▸ made boolean w.extended fine_flag ▸ made_pairs w.values values ▸ fine_string w.path ▸ made_integer w.size fits.1 ▸ tt)
 fine_body (action.Add w) valid fits =
-    let front = and_parts (are_in_order w.values && is_not_empty w.path && is_from_zero w.size) (option_map_or are_in_order w.tags true) valid in
+    let parts = and_parts (are_in_order w.values && is_not_empty w.path && is_from_zero w.size && option_map_or are_in_order w.tags true) (option_map_or is_valid_vector w.vector true) valid in
+    let front = and_parts (are_in_order w.values && is_not_empty w.path && is_from_zero w.size) (option_map_or are_in_order w.tags true) parts.0 in
     let middle = and_parts (are_in_order w.values && is_not_empty w.path) (is_from_zero w.size) front.0 in
     let values = (and_parts (are_in_order w.values) (is_not_empty w.path) middle.0).0 in
     fine_object 2 (action_fields true (action.Add w)) refl
-    (fine_flag w.change ▸ fine_integer w.modified fits.0 ▸ fine_pairs w.values values ▸ fine_string w.path ▸ fine_integer w.size fits.1 ▸ made string w.stats fine_string ▸ made_pairs w.tags front.1 ▸ tt)
+    (fine_flag w.change ▸ made_vector w.vector fits.2 ▸ fine_integer w.modified fits.0 ▸ fine_pairs w.values values ▸ fine_string w.path ▸ fine_integer w.size fits.1 ▸ made string w.stats fine_string ▸ made_pairs w.tags front.1 ▸ tt)
 
 fine_line : (a : Action) → has_valid_fields a ≡ true → HasFittingFields a → IsFine 4 (action_data a)
 fine_line a valid fits =

@@ -5,12 +5,12 @@ use Rattle.json.specs.Print.{print}
 use Rattle.json.specs.Token.{Token}
 use Rattle.serde_json.specs.Written.{compact_text}
 use Rattle.serde_json.proofs.Texts.{print-outline}
-use Rattle.serde_json.specs.Data.{Data}
+use Rattle.serde_json.specs.Data.{Data, object}
 use Rattle.action_fields.specs.Canonical.{Fields, with_field, with_fields}
 use Rattle.action_fields.specs.Tokens.{Puts, data_tokens, members_outline_tokens, field_tokens, fields_tokens}
 use Rattle.std.specs.Prelude.{ℕ, Option, Result}
 use Rattle.std.proofs.lemmas.Result.{on_ok_weaker}
-use Rattle.json.specs.Written.{Written}
+use Rattle.json.specs.Written.{Written, Writes}
 
 -- a field goes before what follows
 one_field : (name : List ℕ) (o : Option Data) (fs : Fields) → members_outline_tokens (with_field name o (with_fields fs)) ≡ field_tokens name o ++ members_outline_tokens (with_fields fs)
@@ -33,6 +33,21 @@ puts_then r old mid new ts us all went kept p is = record {
   ok = on_ok_weaker r (λ (e : new.tokens ≡ mid.tokens ++ us). e ∙ ap (λ l. l ++ us) went ∙ append_assoc old.tokens ts us ∙ ap (λ l. old.tokens ++ l) (sym is)) p.ok;
   before = p.before ∙ kept;
 }
+
+-- the fields of an object between its braces
+pub object_puts : {E : Type 0} (r : Result (Unit {0}) E) (old begun mid new : Written) (fs : Fields)
+    → begun.tokens ≡ old.tokens ++ Token.begin_object ∷ [] → begun.before ≡ old.before → mid.tokens ≡ begun.tokens ++ fields_tokens fs → mid.before ≡ begun.before
+    → Writes r mid new Token.end_object → Puts r old new (data_tokens (object (with_fields fs)))
+object_puts r old begun mid new fs begins kept went same w =
+    let front : mid.tokens ≡ (old.tokens ++ Token.begin_object ∷ []) ++ fields_tokens fs = went ∙ ap (λ l. l ++ fields_tokens fs) begins in
+    let whole : (mid.tokens ++ Token.end_object ∷ []) ≡ old.tokens ++ Token.begin_object ∷ members_outline_tokens (with_fields fs) =
+    ap (λ l. l ++ Token.end_object ∷ []) front ∙ append_assoc (old.tokens ++ Token.begin_object ∷ []) (fields_tokens fs) (Token.end_object ∷ [])
+    ∙ append_assoc old.tokens (Token.begin_object ∷ []) (fields_tokens fs ++ Token.end_object ∷ [])
+    ∙ ap (λ l. old.tokens ++ Token.begin_object ∷ l) (sym (members_tokens-with_fields fs)) in
+    record {
+      ok = on_ok_weaker r (λ (e : new.tokens ≡ mid.tokens ++ Token.end_object ∷ []). e ∙ whole) w.ok;
+      before = w.room.0 ∙ same ∙ kept;
+    }
 
 -- a value that was put into a new writer is its compact text behind what stood there
 pub printed : {E : Type 0} (r : Result (Unit {0}) E) (old new : Written) (d : Data) (bytes : List ℕ)

@@ -10,6 +10,8 @@ use Rattle.action_types.specs.declared.actions.Protocol.{Protocol}
 use Rattle.action_types.specs.declared.actions.Format.{Format}
 use Rattle.action_types.specs.declared.actions.Meta.{Meta}
 use Rattle.action_types.specs.declared.actions.Txn.{Txn}
+use Rattle.action_types.specs.declared.actions.Domain.{Domain}
+use Rattle.action_types.specs.declared.actions.Vector.{Vector}
 use Rattle.action_types.specs.declared.actions.Remove.{Remove}
 use Rattle.action_types.specs.declared.actions.Add.{Add}
 use Rattle.action_fields.specs.declared.kind.Kind.{Kind}
@@ -60,6 +62,17 @@ format_fields f = (codes "options", Some (pairs_data f.options)) ∷ (codes "pro
 abbrev pub format_data : Format → Data
 format_data f = object (with_fields (format_fields f))
 
+abbrev pub vector_fields : Vector → Fields
+vector_fields v =
+    (codes "cardinality", Some (integer_data v.cardinality))
+    ∷ (codes "offset", option_map integer_data v.offset)
+    ∷ (codes "pathOrInlineDv", Some (string v.locator))
+    ∷ (codes "sizeInBytes", Some (integer_data v.size))
+    ∷ (codes "storageType", Some (string v.storage)) ∷ []
+
+abbrev pub vector_data : Vector → Data
+vector_data v = object (with_fields (vector_fields v))
+
 abbrev pub info_fields : Info → Fields
 info_fields a = (codes "inCommitTimestamp", Some (integer_data a.time)) ∷ (codes "txnId", option_map string a.txn_id) ∷ []
 
@@ -85,6 +98,9 @@ abbrev pub txn_fields : Txn → Fields
 txn_fields a =
     (codes "appId", Some (string a.app)) ∷ (codes "lastUpdated", option_map integer_data a.updated) ∷ (codes "version", Some (integer_data a.number)) ∷ []
 
+abbrev pub domain_fields : Domain → Fields
+domain_fields a = (codes "configuration", Some (string a.configuration)) ∷ (codes "domain", Some (string a.domain)) ∷ (codes "removed", Some (boolean a.removed)) ∷ []
+
 -- a flag that is written where change holds
 abbrev pub written : Bool → Bool → Option Bool
 written change flag = if change then Some flag else None
@@ -93,6 +109,7 @@ abbrev pub remove_fields : Bool → Remove → Fields
 remove_fields change a =
     (codes "dataChange", option_map boolean (written change a.change))
     ∷ (codes "deletionTimestamp", option_map integer_data a.deleted)
+    ∷ (codes "deletionVector", option_map vector_data a.vector)
     ∷ (codes "extendedFileMetadata", option_map boolean a.extended)
     ∷ (codes "partitionValues", option_map pairs_data a.values)
     ∷ (codes "path", Some (string a.path))
@@ -101,6 +118,7 @@ remove_fields change a =
 abbrev pub add_fields : Bool → Add → Fields
 add_fields change a =
     (codes "dataChange", option_map boolean (written change a.change))
+    ∷ (codes "deletionVector", option_map vector_data a.vector)
     ∷ (codes "modificationTime", Some (integer_data a.modified))
     ∷ (codes "partitionValues", Some (pairs_data a.values))
     ∷ (codes "path", Some (string a.path))
@@ -113,6 +131,7 @@ kind_of (action.Info a) = kind.Info
 kind_of (action.Protocol a) = kind.Protocol
 kind_of (action.Meta a) = kind.Meta
 kind_of (action.Txn a) = kind.Txn
+kind_of (action.Domain a) = kind.Domain
 kind_of (action.Remove a) = kind.Remove
 kind_of (action.Add a) = kind.Add
 
@@ -121,6 +140,7 @@ action_fields change (action.Info a) = info_fields a
 action_fields change (action.Protocol a) = protocol_fields a
 action_fields change (action.Meta a) = meta_fields a
 action_fields change (action.Txn a) = txn_fields a
+action_fields change (action.Domain a) = domain_fields a
 action_fields change (action.Remove a) = remove_fields change a
 action_fields change (action.Add a) = add_fields change a
 

@@ -3,7 +3,7 @@
 --     integer       an integer of 64 bits, with a sign
 --     from_zero     one that is not negative
 --     flag          a boolean
---     path          a string that is not empty
+--     path          a string that is not empty, as a path or the name of a domain
 --     names         an array of strings
 --     pairs nulls   an object whose values are strings or, where nulls holds, nulls
 --     format        the encoding of the data files

@@ -1,4 +1,5 @@
--- Which actions have fields that a reader accepts: no number below 0 where there may be none, no empty path, names of pairs in order.
+-- Which actions have fields that a reader accepts: no number below 0 where there may be none, no empty path, no domain without a name,
+-- names of pairs in order.
 use Rattle.std.specs.Prelude.{ℕ, ℤ, pos, int_lt, ◌&&◌, Bool, true, false, not, List, [], ◌∷◌, is_some}
 use Rattle.std.specs.Cmp.Lexicographic.{slice_cmp}
 use Rattle.std.specs.List.{list_all}
@@ -7,6 +8,8 @@ use Rattle.std.specs.Ordering.{nat_cmp, is_lt}
 use Rattle.action_types.specs.declared.actions.Action.{Action}
 use Rattle.action_types.specs.declared.actions.Action.TheVariants as action
 use Rattle.action_types.specs.declared.actions.Meta.{Meta}
+use Rattle.action_types.specs.declared.actions.Domain.{Domain}
+use Rattle.action_types.specs.declared.actions.Vector.{Vector}
 use Rattle.action_types.specs.declared.actions.Remove.{Remove}
 use Rattle.action_types.specs.declared.actions.Add.{Add}
 use Rattle.action_fields.specs.Types.{Pair}
@@ -31,16 +34,25 @@ are_texts ps = are_in_order ps && list_all (λ p. is_some p.1) ps
 abbrev pub is_valid_meta : Meta → Bool
 is_valid_meta a = are_texts a.configuration && are_texts a.format.options
 
+abbrev pub is_valid_vector : Vector → Bool
+is_valid_vector v = is_from_zero v.cardinality && option_map_or is_from_zero v.offset true && is_from_zero v.size
+
+abbrev pub is_valid_domain : Domain → Bool
+is_valid_domain a = is_not_empty a.domain
+
 abbrev pub is_valid_remove : Remove → Bool
-is_valid_remove a = option_map_or are_in_order a.values true && is_not_empty a.path && option_map_or is_from_zero a.size true
+is_valid_remove a =
+    option_map_or are_in_order a.values true && is_not_empty a.path && option_map_or is_from_zero a.size true && option_map_or is_valid_vector a.vector true
 
 abbrev pub is_valid_add : Add → Bool
-is_valid_add a = are_in_order a.values && is_not_empty a.path && is_from_zero a.size && option_map_or are_in_order a.tags true
+is_valid_add a =
+    are_in_order a.values && is_not_empty a.path && is_from_zero a.size && option_map_or are_in_order a.tags true && option_map_or is_valid_vector a.vector true
 
 unfoldable pub has_valid_fields : Action → Bool
 has_valid_fields (action.Info a) = is_from_zero a.time
 has_valid_fields (action.Protocol a) = true
 has_valid_fields (action.Meta a) = is_valid_meta a
 has_valid_fields (action.Txn a) = true
+has_valid_fields (action.Domain a) = is_valid_domain a
 has_valid_fields (action.Remove a) = is_valid_remove a
 has_valid_fields (action.Add a) = is_valid_add a

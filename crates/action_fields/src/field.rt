@@ -4,7 +4,7 @@
 
 ghost use Rattle.std.specs.Prelude.{true};
 ghost use Rattle.json_tree.specs.View.{view};
-ghost use Rattle.action_fields.specs.Bodies.{optional, or_empty, or_fault, required, told};
+ghost use Rattle.action_fields.specs.Bodies.{optional, or_empty, or_fault, required, told, vector};
 ghost use Rattle.action_fields.specs.Gives.{Gives};
 ghost use Rattle.action_fields.specs.Types.{flag, format, from_zero, integer, names, pairs, path, text};
 
@@ -12,7 +12,8 @@ use crate::fault::BadBody;
 use crate::types::{
     flag_of, format_of, from_zero_of, given, integer_of, names_of, pairs_of, path_of, text_of,
 };
-use action_types::{Format, Name, Names, Pairs};
+use crate::vector::vector_of;
+use action_types::{Format, Name, Names, Pairs, Vector};
 use json_tree::Tree;
 use std::alloc::Global;
 
@@ -214,6 +215,23 @@ pub(crate) fn optional_pairs(
         None => Ok(None),
         Some(value) => {
             let found = pairs_of(alloc, value, true)?;
+            Ok(Some(needed(alloc, name, found)?))
+        }
+    }
+}
+
+/// A deletion vector that may be absent.
+pub(crate) fn optional_vector(
+    alloc: Global,
+    body: &Tree<'_>,
+    name: &str,
+) -> Result<Option<Vector>, BadBody>
+    ensures { Gives told (λ x. x) result (optional vector name.now (view body.now)) }
+{
+    match given(body, name) {
+        None => Ok(None),
+        Some(value) => {
+            let found = vector_of(alloc, value)?;
             Ok(Some(needed(alloc, name, found)?))
         }
     }

@@ -10,6 +10,7 @@ mod put;
 mod read;
 mod types;
 mod valid;
+mod vector;
 mod write;
 
 pub use fault::BadBody;

@@ -2,13 +2,13 @@
 //! A call that is refused, for want of memory alone, may have written a part; what stood before the writer is kept.
 #![tactic(auto, unfolding(crate::specs::Tokens::field_tokens))]
 
-ghost use Rattle.std.specs.Prelude.{Some, option_map};
+ghost use Rattle.std.specs.Prelude.{OnOk, Some, drop, option_map, take};
 ghost use Rattle.serde_json.specs.Data.{boolean, string};
-ghost use Rattle.action_fields.specs.Canonical.{format_data, integer_data, names_data, pairs_data, pairs_members, texts_items, value_data};
-ghost use Rattle.action_fields.specs.Fits.{Fits, FitsIfGiven};
-ghost use Rattle.action_fields.specs.Tokens.{Puts, data_tokens, field_tokens, items_outline_tokens, members_outline_tokens};
+ghost use Rattle.action_fields.specs.Canonical.{format_data, integer_data, names_data, pairs_data, pairs_members, texts_items, value_data, vector_data, vector_fields};
+ghost use Rattle.action_fields.specs.Fits.{Fits, FitsIfGiven, VectorFits, VectorFitsIfGiven};
+ghost use Rattle.action_fields.specs.Tokens.{Puts, data_tokens, field_tokens, fields_tokens, items_outline_tokens, members_outline_tokens};
 
-use action_types::{Format, Name, Names, Pairs};
+use action_types::{Format, Name, Names, Pairs, Vector};
 use json::Writer;
 use std::alloc::AllocError;
 
@@ -103,6 +103,14 @@ pub(crate) fn put_optional_integer(
     }
 }
 
+/// A field with a boolean.
+pub(crate) fn put_flag(out: &mut Writer, name: &str, flag: bool) -> Result<(), AllocError>
+    ensures { Puts result out.old out.new (field_tokens name.now (Some (boolean flag))) }
+{
+    out.key(name)?;
+    out.boolean(flag)
+}
+
 /// A field with a boolean, or nothing.
 pub(crate) fn put_optional_flag(
     out: &mut Writer,
@@ -113,10 +121,7 @@ pub(crate) fn put_optional_flag(
 {
     match flag {
         None => Ok(()),
-        Some(flag) => {
-            out.key(name)?;
-            out.boolean(flag)
-        }
+        Some(flag) => put_flag(out, name, flag),
     }
 }
 
@@ -180,4 +185,60 @@ pub(crate) fn put_format(out: &mut Writer, name: &str, format: &Format) -> Resul
 {
     out.key(name)?;
     put_format_value(out, format)
+}
+
+#[tactic(auto, using(crate::proofs::Tokens::token_laws))]
+fn put_vector_front(out: &mut Writer, vector: &Vector) -> Result<(), AllocError>
+    ensures puts { Puts result out.old out.new (fields_tokens (take 2 (vector_fields vector.now))) }
+    ensures fits { OnOk result (Fits vector.now.cardinality × FitsIfGiven vector.now.offset) }
+{
+    put_integer(out, "cardinality", vector.cardinality)?;
+    put_optional_integer(out, "offset", vector.offset)
+}
+
+#[tactic(auto, using(crate::proofs::Tokens::token_laws))]
+fn put_vector_rest(out: &mut Writer, vector: &Vector) -> Result<(), AllocError>
+    ensures puts { Puts result out.old out.new (fields_tokens (drop 2 (vector_fields vector.now))) }
+    ensures fits { OnOk result (Fits vector.now.size) }
+{
+    put_text(out, "pathOrInlineDv", &vector.locator)?;
+    put_integer(out, "sizeInBytes", vector.size)?;
+    put_text(out, "storageType", &vector.storage)
+}
+
+#[tactic(auto, using(crate::proofs::Tokens::token_laws))]
+fn put_vector_fields(out: &mut Writer, vector: &Vector) -> Result<(), AllocError>
+    ensures puts { Puts result out.old out.new (fields_tokens (vector_fields vector.now)) }
+    ensures fits { OnOk result (VectorFits vector.now) }
+{
+    put_vector_front(out, vector)?;
+    put_vector_rest(out, vector)
+}
+
+#[tactic(auto, using(crate::proofs::Tokens::token_laws))]
+fn put_vector_value(out: &mut Writer, vector: &Vector) -> Result<(), AllocError>
+    ensures puts { Puts result out.old out.new (data_tokens (vector_data vector.now)) }
+    ensures fits { OnOk result (VectorFits vector.now) }
+{
+    out.begin_object()?;
+    put_vector_fields(out, vector)?;
+    out.end_object()
+}
+
+/// A field with a deletion vector, or nothing.
+pub(crate) fn put_optional_vector(
+    out: &mut Writer,
+    name: &str,
+    vector: &Option<Vector>,
+) -> Result<(), AllocError>
+    ensures puts { Puts result out.old out.new (field_tokens name.now (option_map vector_data vector.now)) }
+    ensures fits { OnOk result (VectorFitsIfGiven vector.now) }
+{
+    match vector {
+        None => Ok(()),
+        Some(vector) => {
+            out.key(name)?;
+            put_vector_value(out, vector)
+        }
+    }
 }

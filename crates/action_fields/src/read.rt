@@ -1,25 +1,27 @@
 //! The bodies of the kinds that a commit has. The fields are read in byte order of their names, so the first faulty one is the least.
 ghost use Rattle.std.specs.Prelude.{IsTrue};
 ghost use Rattle.json_tree.specs.View.{view};
-ghost use Rattle.action_fields.specs.Bodies.{add, body_of, info, meta, protocol, remove, told, txn};
+ghost use Rattle.action_fields.specs.Bodies.{add, body_of, domain, info, meta, protocol, remove, told, txn};
 ghost use Rattle.action_fields.specs.Gives.{Gives};
 ghost use Rattle.action_fields.specs.Kinds.{is_action};
 
 use crate::fault::BadBody;
 use crate::field::{
     optional_flag, optional_from_zero, optional_integer, optional_names, optional_pairs,
-    optional_text, pairs_or_empty, required_flag, required_format, required_from_zero,
-    required_integer, required_names, required_pairs, required_path, required_text,
+    optional_text, optional_vector, pairs_or_empty, required_flag, required_format,
+    required_from_zero, required_integer, required_names, required_pairs, required_path,
+    required_text,
 };
 use crate::kind::Kind;
-use action_types::{Action, Add, Info, Meta, Name, Protocol, Remove, Txn};
+use action_types::{Action, Add, Domain, Info, Meta, Name, Protocol, Remove, Txn};
 use json_tree::Tree;
 use std::alloc::Global;
 
 /// The action that a body of this kind says.
 ///
 /// `Field` names the least faulty field in byte order of the names: one that is missing or null where it is needed, or of
-/// another type, or out of its range; the empty name stands for a body that is no object. Other fields are passed over.
+/// another type, or out of its range; the empty name stands for a body that is no object. A fault within a deletion vector is the
+/// faulty field `deletionVector`. Other fields are passed over.
 #[tactic(auto, unfolding(crate::specs::Bodies::body_of))]
 pub fn read_body(alloc: Global, kind: Kind, value: &Tree<'_>) -> Result<Action, BadBody>
     requires { IsTrue (is_action kind) }
@@ -34,6 +36,7 @@ pub fn read_body(alloc: Global, kind: Kind, value: &Tree<'_>) -> Result<Action, 
         Kind::Protocol => read_protocol(alloc, value),
         Kind::Meta => read_meta(alloc, value),
         Kind::Txn => read_txn(alloc, value),
+        Kind::Domain => read_domain(alloc, value),
         Kind::Remove => read_remove(alloc, value),
         Kind::Add => read_add(alloc, value),
         Kind::CheckpointMetadata | Kind::Sidecar => unreachable!(),
@@ -103,12 +106,27 @@ fn read_txn(alloc: Global, body: &Tree<'_>) -> Result<Action, BadBody>
     }))
 }
 
+#[tactic(auto, unfolding(crate::specs::Bodies::domain))]
+fn read_domain(alloc: Global, body: &Tree<'_>) -> Result<Action, BadBody>
+    ensures { Gives told (λ x. x) result (domain (view body.now)) }
+{
+    let configuration = required_text(alloc, body, "configuration")?;
+    let domain = required_path(alloc, body, "domain")?;
+    let removed = required_flag(alloc, body, "removed")?;
+    Ok(Action::Domain(Domain {
+        configuration,
+        domain,
+        removed,
+    }))
+}
+
 #[tactic(auto, unfolding(crate::specs::Bodies::remove))]
 fn read_remove(alloc: Global, body: &Tree<'_>) -> Result<Action, BadBody>
     ensures { Gives told (λ x. x) result (remove (view body.now)) }
 {
     let change = required_flag(alloc, body, "dataChange")?;
     let deleted = optional_integer(alloc, body, "deletionTimestamp")?;
+    let vector = optional_vector(alloc, body, "deletionVector")?;
     let extended = optional_flag(alloc, body, "extendedFileMetadata")?;
     let values = optional_pairs(alloc, body, "partitionValues")?;
     let path = required_path(alloc, body, "path")?;
@@ -120,6 +138,7 @@ fn read_remove(alloc: Global, body: &Tree<'_>) -> Result<Action, BadBody>
         values,
         path,
         size,
+        vector,
     }))
 }
 
@@ -128,6 +147,7 @@ fn read_add(alloc: Global, body: &Tree<'_>) -> Result<Action, BadBody>
     ensures { Gives told (λ x. x) result (add (view body.now)) }
 {
     let change = required_flag(alloc, body, "dataChange")?;
+    let vector = optional_vector(alloc, body, "deletionVector")?;
     let modified = required_integer(alloc, body, "modificationTime")?;
     let values = required_pairs(alloc, body, "partitionValues")?;
     let path = required_path(alloc, body, "path")?;
@@ -142,5 +162,6 @@ fn read_add(alloc: Global, body: &Tree<'_>) -> Result<Action, BadBody>
         size,
         stats,
         tags,
+        vector,
     }))
 }

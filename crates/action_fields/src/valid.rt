@@ -3,12 +3,13 @@ ghost use Rattle.std.specs.Prelude.{◌≡◌, true};
 ghost use Rattle.std.specs.List.{list_all};
 ghost use Rattle.std.specs.Option.{option_map_or};
 ghost use Rattle.std.specs.Prelude.{is_some};
-ghost use Rattle.action_fields.specs.Valid.{are_in_order, are_texts, has_valid_fields, is_from_zero, is_valid_add, is_valid_meta, is_valid_remove};
+ghost use Rattle.action_fields.specs.Valid.{are_in_order, are_texts, has_valid_fields, is_from_zero, is_valid_add, is_valid_domain, is_valid_meta, is_valid_remove, is_valid_vector};
 
-use action_types::{Action, Add, Meta, Name, Pairs, Remove};
+use action_types::{Action, Add, Domain, Meta, Name, Pairs, Remove, Vector};
 
-/// Whether each field of the action is one that `read_body` accepts: no negative time or size, no empty path, and pairs in byte
-/// order of their names, each name once, with texts alone in a configuration and in the options of a format.
+/// Whether each field of the action is one that `read_body` accepts: no negative time or size, no negative number in a deletion
+/// vector, no empty path, no domain without a name, and pairs in byte order of their names, each name once, with texts alone in a
+/// configuration and in the options of a format.
 #[tactic(auto, unfolding(crate::specs::Valid::has_valid_fields))]
 pub fn has_valid_fields(action: &Action) -> bool
     ensures { result ≡ has_valid_fields action.now }
@@ -17,6 +18,7 @@ pub fn has_valid_fields(action: &Action) -> bool
         Action::Info(info) => info.time >= 0,
         Action::Protocol(_) | Action::Txn(_) => true,
         Action::Meta(meta) => is_valid_meta(meta),
+        Action::Domain(domain) => is_valid_domain(domain),
         Action::Remove(remove) => is_valid_remove(remove),
         Action::Add(add) => is_valid_add(add),
     }
@@ -28,12 +30,19 @@ fn is_valid_meta(meta: &Meta) -> bool
     are_texts(&meta.configuration) && are_texts(&meta.format.options)
 }
 
+fn is_valid_domain(domain: &Domain) -> bool
+    ensures { result ≡ is_valid_domain domain.now }
+{
+    !domain.domain.is_empty()
+}
+
 fn is_valid_remove(remove: &Remove) -> bool
     ensures { result ≡ is_valid_remove remove.now }
 {
     are_optional_in_order(&remove.values)
         && !remove.path.is_empty()
         && is_optional_from_zero(remove.size)
+        && is_optional_vector_valid(&remove.vector)
 }
 
 fn is_valid_add(add: &Add) -> bool
@@ -43,6 +52,22 @@ fn is_valid_add(add: &Add) -> bool
         && !add.path.is_empty()
         && add.size >= 0
         && are_optional_in_order(&add.tags)
+        && is_optional_vector_valid(&add.vector)
+}
+
+fn is_valid_vector(vector: &Vector) -> bool
+    ensures { result ≡ is_valid_vector vector.now }
+{
+    vector.cardinality >= 0 && is_optional_from_zero(vector.offset) && vector.size >= 0
+}
+
+fn is_optional_vector_valid(vector: &Option<Vector>) -> bool
+    ensures { result ≡ option_map_or is_valid_vector vector.now true }
+{
+    match vector {
+        None => true,
+        Some(vector) => is_valid_vector(vector),
+    }
 }
 
 fn is_optional_from_zero(number: Option<i64>) -> bool

@@ -3,16 +3,17 @@ ghost use Rattle.std.specs.Prelude.{◌≡◌, ◌++◌, OnErr, OnOk, drop, take
 ghost use Rattle.std.specs.Str.{is_utf8};
 ghost use Rattle.json.specs.Print.{print};
 ghost use Rattle.action_types.specs.declared.actions.Action.TheVariants as action;
-ghost use Rattle.action_fields.specs.Canonical.{action_data, action_fields, add_fields, body_data, canonical_body, canonical_line, info_fields, kind_of, meta_fields, protocol_fields, remove_fields, txn_fields, written};
-ghost use Rattle.action_fields.specs.Fits.{Fits, FitsIfGiven, HasFittingFields};
+ghost use Rattle.action_fields.specs.Canonical.{action_data, action_fields, add_fields, body_data, canonical_body, canonical_line, domain_fields, info_fields, kind_of, meta_fields, protocol_fields, remove_fields, txn_fields, written};
+ghost use Rattle.action_fields.specs.Fits.{Fits, FitsIfGiven, HasFittingFields, VectorFitsIfGiven};
 ghost use Rattle.action_fields.specs.Tokens.{Puts, data_tokens, fields_tokens};
 
 use crate::kind::kind_of;
 use crate::put::{
-    put_format, put_integer, put_names, put_optional_flag, put_optional_integer,
-    put_optional_names, put_optional_pairs, put_optional_text, put_pairs, put_text,
+    put_flag, put_format, put_integer, put_names, put_optional_flag, put_optional_integer,
+    put_optional_names, put_optional_pairs, put_optional_text, put_optional_vector, put_pairs,
+    put_text,
 };
-use action_types::{Action, Add, Info, Meta, Protocol, Remove, Txn};
+use action_types::{Action, Add, Domain, Info, Meta, Protocol, Remove, Txn};
 use json::Writer;
 use std::alloc::{AllocError, Global};
 use std::mem;
@@ -92,6 +93,16 @@ fn put_txn(out: &mut Writer, txn: &Txn) -> Result<(), AllocError>
     put_integer(out, "version", txn.number)
 }
 
+#[tactic(auto, using(crate::proofs::Tokens::token_laws))]
+fn put_domain(out: &mut Writer, domain: &Domain) -> Result<(), AllocError>
+    ensures puts { Puts result out.old out.new (fields_tokens (domain_fields domain.now)) }
+    ensures fits { OnOk result (HasFittingFields (action.Domain domain.now)) }
+{
+    put_text(out, "configuration", &domain.configuration)?;
+    put_text(out, "domain", &domain.domain)?;
+    put_flag(out, "removed", domain.removed)
+}
+
 /// A flag that is written where `change` holds.
 fn written_flag(flag: bool, change: bool) -> Option<bool>
     ensures { result ≡ written change flag }
@@ -101,17 +112,18 @@ fn written_flag(flag: bool, change: bool) -> Option<bool>
 
 #[tactic(auto, using(crate::proofs::Tokens::token_laws))]
 fn put_remove_front(out: &mut Writer, remove: &Remove, change: bool) -> Result<(), AllocError>
-    ensures puts { Puts result out.old out.new (fields_tokens (take 2 (remove_fields change remove.now))) }
-    ensures fits { OnOk result (FitsIfGiven remove.now.deleted) }
+    ensures puts { Puts result out.old out.new (fields_tokens (take 3 (remove_fields change remove.now))) }
+    ensures fits { OnOk result (FitsIfGiven remove.now.deleted × VectorFitsIfGiven remove.now.vector) }
 {
     put_optional_flag(out, "dataChange", written_flag(remove.change, change))?;
     put_optional_integer(out, "deletionTimestamp", remove.deleted)?;
+    put_optional_vector(out, "deletionVector", &remove.vector)?;
     Ok(())
 }
 
 #[tactic(auto, using(crate::proofs::Tokens::token_laws))]
 fn put_remove_rest(out: &mut Writer, remove: &Remove, change: bool) -> Result<(), AllocError>
-    ensures puts { Puts result out.old out.new (fields_tokens (drop 2 (remove_fields change remove.now))) }
+    ensures puts { Puts result out.old out.new (fields_tokens (drop 3 (remove_fields change remove.now))) }
     ensures fits { OnOk result (FitsIfGiven remove.now.size) }
 {
     put_optional_flag(out, "extendedFileMetadata", remove.extended)?;
@@ -133,12 +145,13 @@ fn put_remove(out: &mut Writer, remove: &Remove, change: bool) -> Result<(), All
 #[tactic(auto, using(crate::proofs::Tokens::token_laws))]
 fn put_add_front(out: &mut Writer, add: &Add, change: bool) -> Result<(), AllocError>
     ensures puts { Puts result out.old out.new (fields_tokens (take 4 (add_fields change add.now))) }
-    ensures fits { OnOk result (Fits add.now.modified) }
+    ensures fits { OnOk result (Fits add.now.modified × VectorFitsIfGiven add.now.vector) }
 {
     put_optional_flag(out, "dataChange", written_flag(add.change, change))?;
+    put_optional_vector(out, "deletionVector", &add.vector)?;
     put_integer(out, "modificationTime", add.modified)?;
     put_pairs(out, "partitionValues", &add.values)?;
-    put_text(out, "path", &add.path)
+    Ok(())
 }
 
 #[tactic(auto, using(crate::proofs::Tokens::token_laws))]
@@ -146,6 +159,7 @@ fn put_add_rest(out: &mut Writer, add: &Add, change: bool) -> Result<(), AllocEr
     ensures puts { Puts result out.old out.new (fields_tokens (drop 4 (add_fields change add.now))) }
     ensures fits { OnOk result (Fits add.now.size) }
 {
+    put_text(out, "path", &add.path)?;
     put_integer(out, "size", add.size)?;
     put_optional_text(out, "stats", &add.stats)?;
     put_optional_pairs(out, "tags", &add.tags)
@@ -169,6 +183,7 @@ fn put_fields(out: &mut Writer, action: &Action, change: bool) -> Result<(), All
         Action::Protocol(protocol) => put_protocol(out, protocol),
         Action::Meta(meta) => put_meta(out, meta),
         Action::Txn(txn) => put_txn(out, txn),
+        Action::Domain(domain) => put_domain(out, domain),
         Action::Remove(remove) => put_remove(out, remove, change),
         Action::Add(add) => put_add(out, add, change),
     }

@@ -21,12 +21,14 @@ member_line-kind true (action.Info a) body h = refl
 member_line-kind true (action.Protocol a) body h = let no = h refl in absurd (cc)
 member_line-kind true (action.Meta a) body h = let no = h refl in absurd (cc)
 member_line-kind true (action.Txn a) body h = let no = h refl in absurd (cc)
+member_line-kind true (action.Domain a) body h = let no = h refl in absurd (cc)
 member_line-kind true (action.Remove a) body h = let no = h refl in absurd (cc)
 member_line-kind true (action.Add a) body h = let no = h refl in absurd (cc)
 member_line-kind false (action.Info a) body h = refl
 member_line-kind false (action.Protocol a) body h = refl
 member_line-kind false (action.Meta a) body h = refl
 member_line-kind false (action.Txn a) body h = refl
+member_line-kind false (action.Domain a) body h = refl
 member_line-kind false (action.Remove a) body h = refl
 member_line-kind false (action.Add a) body h = refl
 

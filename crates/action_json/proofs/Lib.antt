@@ -6,4 +6,5 @@ pub mod Commits
 pub mod Again
 pub mod Answered
 pub mod Distinct
+pub mod Files
 pub mod Quickly

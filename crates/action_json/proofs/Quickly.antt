@@ -8,13 +8,15 @@ use Rattle.text_lines.specs.Lines.{cut}
 use Rattle.text_lines.proofs.Cutting.{cut-nil}
 use Rattle.action_types.specs.declared.actions.Action.{Action}
 use Rattle.action_types.specs.declared.actions.Action.TheVariants as action
+use Rattle.action_types.specs.Files.{File, file_of_add, file_of_remove}
 use Rattle.action_json.specs.Lines.{line_of}
-use Rattle.action_json.specs.Commit.{mentions, is_of_app, is_info, is_protocol, is_meta, double_of, is_nil, after_line, outcome_from, outcome}
-use Rattle.action_json.specs.Digests.{digest, digest_of, HasDistinctDigests}
+use Rattle.action_json.specs.Commit.{mentions, is_of_app, is_of_domain, is_info, is_protocol, is_meta, double_of, is_nil, after_line, outcome_from, outcome}
+use Rattle.action_json.specs.Digests.{digest, file_digest, digest_of, HasDistinctDigests}
 use Rattle.action_json.specs.Quick.{said_after, said_from}
 use Rattle.action_json.specs.declared.line.Line.{Line}
 use Rattle.action_json.specs.declared.line.Line.TheVariants.{Blank, Unread, Says}
 use Rattle.action_json.specs.declared.fault.Why.{Why}
+use Rattle.action_json.proofs.Files.{one_file}
 
 -- ---- an action whose digest no other has is no double
 
@@ -24,6 +26,7 @@ info_digest (action.Info a) h = refl
 info_digest (action.Protocol a) h = absurd (cc)
 info_digest (action.Meta a) h = absurd (cc)
 info_digest (action.Txn a) h = absurd (cc)
+info_digest (action.Domain a) h = absurd (cc)
 info_digest (action.Remove a) h = absurd (cc)
 info_digest (action.Add a) h = absurd (cc)
 
@@ -33,6 +36,7 @@ protocol_digest (action.Info a) h = absurd (cc)
 protocol_digest (action.Protocol a) h = refl
 protocol_digest (action.Meta a) h = absurd (cc)
 protocol_digest (action.Txn a) h = absurd (cc)
+protocol_digest (action.Domain a) h = absurd (cc)
 protocol_digest (action.Remove a) h = absurd (cc)
 protocol_digest (action.Add a) h = absurd (cc)
 
@@ -42,6 +46,7 @@ meta_digest (action.Info a) h = absurd (cc)
 meta_digest (action.Protocol a) h = absurd (cc)
 meta_digest (action.Meta a) h = refl
 meta_digest (action.Txn a) h = absurd (cc)
+meta_digest (action.Domain a) h = absurd (cc)
 meta_digest (action.Remove a) h = absurd (cc)
 meta_digest (action.Add a) h = absurd (cc)
 
@@ -51,17 +56,29 @@ app_digest app (action.Info a) h = absurd (cc)
 app_digest app (action.Protocol a) h = absurd (cc)
 app_digest app (action.Meta a) h = absurd (cc)
 app_digest app (action.Txn a) h = ap (digest 4) ((bytes_eq-Decides a.app app).0 h)
+app_digest app (action.Domain a) h = absurd (cc)
 app_digest app (action.Remove a) h = absurd (cc)
 app_digest app (action.Add a) h = absurd (cc)
 
-path_digest : (path : List ℕ) (b : Action) → mentions path b ≡ true → digest_of b ≡ digest 5 path
+domain_digest : (domain : List ℕ) (b : Action) → is_of_domain domain b ≡ true → digest_of b ≡ digest 6 domain
 unfolding digest_of
-path_digest path (action.Info a) h = absurd (cc)
-path_digest path (action.Protocol a) h = absurd (cc)
-path_digest path (action.Meta a) h = absurd (cc)
-path_digest path (action.Txn a) h = absurd (cc)
-path_digest path (action.Remove a) h = ap (digest 5) ((bytes_eq-Decides a.path path).0 h)
-path_digest path (action.Add a) h = ap (digest 5) ((bytes_eq-Decides a.path path).0 h)
+domain_digest domain (action.Info a) h = absurd (cc)
+domain_digest domain (action.Protocol a) h = absurd (cc)
+domain_digest domain (action.Meta a) h = absurd (cc)
+domain_digest domain (action.Txn a) h = absurd (cc)
+domain_digest domain (action.Domain a) h = ap (digest 6) ((bytes_eq-Decides a.domain domain).0 h)
+domain_digest domain (action.Remove a) h = absurd (cc)
+domain_digest domain (action.Add a) h = absurd (cc)
+
+file_digest-mentions : (file : File) (b : Action) → mentions file b ≡ true → digest_of b ≡ file_digest file
+unfolding digest_of
+file_digest-mentions file (action.Info a) h = absurd (cc)
+file_digest-mentions file (action.Protocol a) h = absurd (cc)
+file_digest-mentions file (action.Meta a) h = absurd (cc)
+file_digest-mentions file (action.Txn a) h = absurd (cc)
+file_digest-mentions file (action.Domain a) h = absurd (cc)
+file_digest-mentions file (action.Remove a) h = ap file_digest (one_file (file_of_remove a) file h)
+file_digest-mentions file (action.Add a) h = ap file_digest (one_file (file_of_add a) file h)
 
 -- this digest is not among those of the actions
 abbrev IsNew : ℕ → List ℕ → Type 0
@@ -79,8 +96,9 @@ no_double done (action.Info a) new = rw (none_passes is_info (digest 1 []) info_
 no_double done (action.Protocol a) new = rw (none_passes is_protocol (digest 2 []) protocol_digest done new) refl
 no_double done (action.Meta a) new = rw (none_passes is_meta (digest 3 []) meta_digest done new) refl
 no_double done (action.Txn a) new = rw (none_passes (is_of_app a.app) (digest 4 a.app) (app_digest a.app) done new) refl
-no_double done (action.Remove a) new = rw (none_passes (mentions a.path) (digest 5 a.path) (path_digest a.path) done new) refl
-no_double done (action.Add a) new = rw (none_passes (mentions a.path) (digest 5 a.path) (path_digest a.path) done new) refl
+no_double done (action.Domain a) new = rw (none_passes (is_of_domain a.domain) (digest 6 a.domain) (domain_digest a.domain) done new) refl
+no_double done (action.Remove a) new = rw (none_passes (mentions (file_of_remove a)) (file_digest (file_of_remove a)) (file_digest-mentions (file_of_remove a)) done new) refl
+no_double done (action.Add a) new = rw (none_passes (mentions (file_of_add a)) (file_digest (file_of_add a)) (file_digest-mentions (file_of_add a)) done new) refl
 
 -- ---- the actions before others
 

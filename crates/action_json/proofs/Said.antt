@@ -87,6 +87,7 @@ is_info-kind (action.Info a) e = refl
 is_info-kind (action.Protocol a) e = absurd (cc)
 is_info-kind (action.Meta a) e = absurd (cc)
 is_info-kind (action.Txn a) e = absurd (cc)
+is_info-kind (action.Domain a) e = absurd (cc)
 is_info-kind (action.Remove a) e = absurd (cc)
 is_info-kind (action.Add a) e = absurd (cc)
 

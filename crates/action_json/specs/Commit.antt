@@ -6,6 +6,7 @@ use Rattle.std.specs.Result.{result_ok, result_err}
 use Rattle.text_lines.specs.Lines.{cut, with_lf}
 use Rattle.action_types.specs.declared.actions.Action.{Action}
 use Rattle.action_types.specs.declared.actions.Action.TheVariants as action
+use Rattle.action_types.specs.Files.{File, file_of_add, file_of_remove, same_file}
 use Rattle.action_fields.specs.Canonical.{kind_of, canonical_line}
 use Rattle.action_fields.specs.Fits.{HasFittingFields}
 use Rattle.action_fields.specs.Valid.{has_valid_fields}
@@ -21,14 +22,15 @@ use Rattle.action_json.specs.declared.fault.Why.TheVariants as why
 
 -- ---- doubles
 
--- the action adds or removes this path
-abbrev pub mentions : List ℕ → Action → Bool
-mentions path (action.Info a) = false
-mentions path (action.Protocol a) = false
-mentions path (action.Meta a) = false
-mentions path (action.Txn a) = false
-mentions path (action.Remove a) = bytes_eq a.path path
-mentions path (action.Add a) = bytes_eq a.path path
+-- the action adds or removes this file
+abbrev pub mentions : File → Action → Bool
+mentions file (action.Info a) = false
+mentions file (action.Protocol a) = false
+mentions file (action.Meta a) = false
+mentions file (action.Txn a) = false
+mentions file (action.Domain a) = false
+mentions file (action.Remove a) = same_file (file_of_remove a) file
+mentions file (action.Add a) = same_file (file_of_add a) file
 
 -- it is a txn of this application
 abbrev pub is_of_app : List ℕ → Action → Bool
@@ -36,14 +38,26 @@ is_of_app app (action.Info a) = false
 is_of_app app (action.Protocol a) = false
 is_of_app app (action.Meta a) = false
 is_of_app app (action.Txn a) = bytes_eq a.app app
+is_of_app app (action.Domain a) = false
 is_of_app app (action.Remove a) = false
 is_of_app app (action.Add a) = false
+
+-- it is a domainMetadata of this domain
+abbrev pub is_of_domain : List ℕ → Action → Bool
+is_of_domain domain (action.Info a) = false
+is_of_domain domain (action.Protocol a) = false
+is_of_domain domain (action.Meta a) = false
+is_of_domain domain (action.Txn a) = false
+is_of_domain domain (action.Domain a) = bytes_eq a.domain domain
+is_of_domain domain (action.Remove a) = false
+is_of_domain domain (action.Add a) = false
 
 abbrev pub is_info : Action → Bool
 is_info (action.Info a) = true
 is_info (action.Protocol a) = false
 is_info (action.Meta a) = false
 is_info (action.Txn a) = false
+is_info (action.Domain a) = false
 is_info (action.Remove a) = false
 is_info (action.Add a) = false
 
@@ -52,6 +66,7 @@ is_protocol (action.Info a) = false
 is_protocol (action.Protocol a) = true
 is_protocol (action.Meta a) = false
 is_protocol (action.Txn a) = false
+is_protocol (action.Domain a) = false
 is_protocol (action.Remove a) = false
 is_protocol (action.Add a) = false
 
@@ -60,20 +75,23 @@ is_meta (action.Info a) = false
 is_meta (action.Protocol a) = false
 is_meta (action.Meta a) = true
 is_meta (action.Txn a) = false
+is_meta (action.Domain a) = false
 is_meta (action.Remove a) = false
 is_meta (action.Add a) = false
 
 abbrev pub if_some : Bool → List ℕ → Option (List ℕ)
 if_some found key = if found then Some key else None
 
--- the key that the action has in common with one before it: a path, an application, or the empty key for the kinds that stand once
+-- the key that the action has in common with one before it: the path of a file, an application, a domain, or the empty key for the
+-- kinds that stand once
 unfoldable pub double_of : List Action → Action → Option (List ℕ)
 double_of before (action.Info a) = if_some (list_any is_info before) []
 double_of before (action.Protocol a) = if_some (list_any is_protocol before) []
 double_of before (action.Meta a) = if_some (list_any is_meta before) []
 double_of before (action.Txn a) = if_some (list_any (is_of_app a.app) before) a.app
-double_of before (action.Remove a) = if_some (list_any (mentions a.path) before) a.path
-double_of before (action.Add a) = if_some (list_any (mentions a.path) before) a.path
+double_of before (action.Domain a) = if_some (list_any (is_of_domain a.domain) before) a.domain
+double_of before (action.Remove a) = if_some (list_any (mentions (file_of_remove a)) before) a.path
+double_of before (action.Add a) = if_some (list_any (mentions (file_of_add a)) before) a.path
 
 -- ---- reading
 
@@ -136,8 +154,8 @@ abbrev pub are_new : List Action → List Action → Bool
 are_new before [] = true
 are_new before (a ∷ more) = has_valid_fields a && not (is_some (double_of before a)) && are_new (before ++ a ∷ []) more
 
--- the list is empty or begins with a commitInfo; no path is mentioned twice, no application twice, and no protocol, metaData or
--- commitInfo stands twice; each field is one that is read
+-- the list is empty or begins with a commitInfo; no file is mentioned twice, no application twice, no domain twice, and no protocol,
+-- metaData or commitInfo stands twice; each field is one that is read
 pub record IsCommit (actions : List Action) : Type 0 where
   pub begins : begins_with_info actions ≡ true
   pub new : are_new [] actions ≡ true

@@ -1,22 +1,47 @@
 //! Digests of what actions name, by which a list of actions is seen to have no double without a set of names.
-ghost use Rattle.std.specs.Prelude.{◌≡◌, ◌==◌, ◌↔◌, IsTrue};
+ghost use Rattle.std.specs.Prelude.{◌≡◌, ◌==◌, ◌↔◌, IfOk, IsTrue, option_map};
 ghost use Rattle.std.specs.List.{IsDistinct};
-ghost use Rattle.action_json.specs.Digests.{digest, digest_of, fnv_step};
+ghost use Rattle.action_types.specs.Files.{file, unique_id};
+ghost use Rattle.action_json.specs.Digests.{digest, digest_of, digested, file_digest, fnv_step, vector_digest};
 
-use action_types::Action;
+use crate::keys::id_of;
+use action_types::{Action, Name, Vector};
+use std::alloc::{AllocError, Global};
 
-/// The digest of what the action names: actions that name the same have the same digest.
+/// The digest of what the action names: actions that name the same have the same digest. Refused for want of memory alone.
 #[tactic(auto, unfolding(crate::specs::Digests::digest_of))]
-pub(crate) fn digest_of(action: &Action) -> u64
-    ensures { result ≡ digest_of action.now }
+pub(crate) fn digest_of(alloc: Global, action: &Action) -> Result<u64, AllocError>
+    ensures { IfOk result (λ d. d ≡ digest_of action.now) }
 {
     match action {
-        Action::Info(_) => digest(1, &[]),
-        Action::Protocol(_) => digest(2, &[]),
-        Action::Meta(_) => digest(3, &[]),
-        Action::Txn(txn) => digest(4, txn.app.as_str().as_bytes()),
-        Action::Remove(remove) => digest(5, remove.path.as_str().as_bytes()),
-        Action::Add(add) => digest(5, add.path.as_str().as_bytes()),
+        Action::Info(_) => Ok(digest(1, &[])),
+        Action::Protocol(_) => Ok(digest(2, &[])),
+        Action::Meta(_) => Ok(digest(3, &[])),
+        Action::Txn(txn) => Ok(digest(4, txn.app.as_str().as_bytes())),
+        Action::Domain(domain) => Ok(digest(6, domain.domain.as_str().as_bytes())),
+        Action::Remove(remove) => file_digest(alloc, &remove.path, &remove.vector),
+        Action::Add(add) => file_digest(alloc, &add.path, &add.vector),
+    }
+}
+
+/// The digest of a file: that of its path and, where it has a vector, of a byte that no text has and of the unique id.
+#[tactic(auto, unfolding(crate::specs::Digests::file_digest))]
+fn file_digest(alloc: Global, path: &Name, vector: &Option<Vector>) -> Result<u64, AllocError>
+    ensures { IfOk result (λ d. d ≡ file_digest (file path.now vector.now)) }
+{
+    let hash = digest(5, path.as_str().as_bytes());
+    let id = id_of(alloc, vector)?;
+    Ok(vector_digest(hash, &id))
+}
+
+/// The digest of a file by that of its path.
+#[tactic(auto, unfolding(crate::specs::Digests::vector_digest))]
+fn vector_digest(hash: u64, id: &Option<Name>) -> u64
+    ensures { result ≡ vector_digest hash id.now }
+{
+    match id {
+        None => hash,
+        Some(id) => digested(fnv_step(hash, 255), id.as_str().as_bytes()),
     }
 }
 
@@ -25,8 +50,15 @@ pub(crate) fn digest_of(action: &Action) -> u64
 fn digest(tag: u8, key: &[u8]) -> u64
     ensures { result ≡ digest tag key.now }
 {
-    let mut hash = fnv_step(0xcbf29ce484222325, tag);
-    for byte in key {
+    digested(fnv_step(0xcbf29ce484222325, tag), key)
+}
+
+/// The rounds of more bytes.
+#[tactic(auto, unfolding(crate::specs::Digests::digested))]
+fn digested(mut hash: u64, bytes: &[u8]) -> u64
+    ensures { result ≡ digested hash bytes.now }
+{
+    for byte in bytes {
         hash = fnv_step(hash, *byte);
     }
     hash

@@ -15,8 +15,8 @@ pub enum Why {
     InfoNotFirst,
     /// The field of its body is faulty: the least in byte order of the names; the empty name where the body is no object.
     Field { kind: Kind, field: Name },
-    /// Its action names again what an earlier line's does: a path of an add or a remove, an application, or, with the empty key,
-    /// a protocol, a metaData or a commitInfo.
+    /// Its action names again what an earlier line's does: the file of an add or a remove, whose path is the key, an application, a
+    /// domain, or, with the empty key, a protocol, a metaData or a commitInfo.
     Double { kind: Kind, key: Name },
 }
 

@@ -1,23 +1,28 @@
-//! The keys of the actions so far, which no later action may name again.
-ghost use Rattle.std.specs.Prelude.{◌≡◌, ℕ, ◌||◌, List, [], ◌∷◌, ◌++◌, IfOk, OnOk, bytes_eq};
+//! What the actions so far name, which no later action may name again.
+ghost use Rattle.std.specs.Prelude.{◌≡◌, ℕ, ◌||◌, List, [], ◌∷◌, ◌++◌, IfOk, OnOk, bytes_eq, option_map};
 ghost use Rattle.std.specs.BTreeSet.{contains_text};
+ghost use Rattle.action_types.specs.Files.{File, file, same_file, unique_id};
 ghost use Rattle.action_types.specs.declared.actions.Action.{Action};
 ghost use Rattle.action_json.specs.Commit.{double_of, if_some};
-ghost use Rattle.action_json.specs.Keys.{Knows};
+ghost use Rattle.action_json.specs.Keys.{Knows, contains_file};
 
-use action_types::{Action, Name};
+use action_types::{Action, Name, Vector};
 use std::alloc::{AllocError, Global};
 use std::collections::BTreeSet;
 use std::mem;
 
-/// Which kinds that stand once, which applications and which paths have been named.
+/// A path, and the unique id of a deletion vector or none.
+type Noted = (Name, Option<Name>);
+
+/// Which kinds that stand once, which applications, which domains and which files have been named.
 #[derive(Drop)]
 pub(crate) struct Keys {
     info: bool,
     protocol: bool,
     meta: bool,
     apps: BTreeSet<String>,
-    paths: BTreeSet<String>,
+    domains: BTreeSet<String>,
+    files: BTreeSet<Noted>,
 }
 
 impl Keys {
@@ -30,7 +35,8 @@ impl Keys {
             protocol: false,
             meta: false,
             apps: BTreeSet::new(alloc),
-            paths: BTreeSet::new(alloc),
+            domains: BTreeSet::new(alloc),
+            files: BTreeSet::new(alloc),
         }
     }
 
@@ -45,8 +51,11 @@ impl Keys {
             Action::Protocol(_) => empty_if(alloc, mem::replace(&mut self.protocol, true)),
             Action::Meta(_) => empty_if(alloc, mem::replace(&mut self.meta, true)),
             Action::Txn(txn) => note(alloc, &mut self.apps, &txn.app),
-            Action::Remove(remove) => note(alloc, &mut self.paths, &remove.path),
-            Action::Add(add) => note(alloc, &mut self.paths, &add.path),
+            Action::Domain(domain) => note(alloc, &mut self.domains, &domain.domain),
+            Action::Remove(remove) => {
+                note_file(alloc, &mut self.files, &remove.path, &remove.vector)
+            }
+            Action::Add(add) => note_file(alloc, &mut self.files, &add.path, &add.vector),
         }
     }
 }
@@ -71,5 +80,33 @@ fn note(alloc: Global, keys: &mut BTreeSet<String>, key: &Name) -> Result<Option
         Ok(None)
     } else {
         Ok(Some(key.copy()?))
+    }
+}
+
+/// The unique id of a vector, if there is one; refused for want of memory alone.
+pub(crate) fn id_of(alloc: Global, vector: &Option<Vector>) -> Result<Option<Name>, AllocError>
+    ensures { IfOk result (λ id. id ≡ option_map unique_id vector.now) }
+{
+    match vector {
+        None => Ok(None),
+        Some(vector) => Ok(Some(vector.unique_id(alloc)?)),
+    }
+}
+
+/// Notes a file; the answer is its path where the file was noted before.
+fn note_file(
+    alloc: Global,
+    files: &mut BTreeSet<Noted>,
+    path: &Name,
+    vector: &Option<Vector>,
+) -> Result<Option<Name>, AllocError>
+    ensures double { IfOk result (λ o. o ≡ if_some (contains_file files.old (file path.now vector.now)) path.now) }
+    ensures noted { OnOk result ((q : File) → contains_file files.new q ≡ (contains_file files.old q || same_file (file path.now vector.now) q)) }
+{
+    let id = id_of(alloc, vector)?;
+    if files.insert((path.copy()?, id))? {
+        Ok(None)
+    } else {
+        Ok(Some(path.copy()?))
     }
 }

@@ -75,7 +75,7 @@ fn take_line<'a>(
     let first = quick.actions.is_empty();
     match read_line(alloc, scratch, first, line) {
         Ok(Line::Says(action)) => {
-            quick.digests.push(digest_of(&action))?;
+            quick.digests.push(digest_of(alloc, &action)?)?;
             quick.actions.push(action)?;
             Ok(true)
         }

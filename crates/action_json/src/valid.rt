@@ -1,13 +1,15 @@
 //! Which lists of actions are commits.
 ghost use Rattle.std.specs.Prelude.{◌≡◌, ◌↔◌, [], IsTrue, is_some};
 ghost use Rattle.std.specs.List.{list_any};
-ghost use Rattle.action_json.specs.Commit.{IsCommit, are_new, begins_with_info, double_of, is_info, is_meta, is_of_app, is_protocol, mentions};
+ghost use Rattle.action_types.specs.Files.{file_of_key};
+ghost use Rattle.action_json.specs.Commit.{IsCommit, are_new, begins_with_info, double_of, is_info, is_meta, is_of_app, is_of_domain, is_protocol, mentions};
 
 use action_fields::has_valid_fields;
-use action_types::{Action, Name};
+use action_types::{Action, Key, Name};
 
-/// Whether the list is a commit: it is empty or begins with an `Info`, no path stands twice among its adds and removes, no
-/// application twice among its txns, no `Protocol`, `Meta` or `Info` twice, and each field is one that a reader accepts.
+/// Whether the list is a commit: it is empty or begins with an `Info`, no file (a path, and the unique id of a vector or none) stands
+/// twice among its adds and removes, no application twice among its txns, no domain twice, no `Protocol`, `Meta` or `Info` twice, and
+/// each field is one that a reader accepts.
 ///
 /// It takes no memory, so its time grows with the square of the length.
 pub fn is_commit(actions: &[Action]) -> bool
@@ -46,8 +48,9 @@ fn is_double(before: &[Action], action: &Action) -> bool
         Action::Protocol(_) => has_protocol(before),
         Action::Meta(_) => has_meta(before),
         Action::Txn(txn) => has_app(before, &txn.app),
-        Action::Remove(remove) => has_path(before, &remove.path),
-        Action::Add(add) => has_path(before, &add.path),
+        Action::Domain(domain) => has_domain(before, &domain.domain),
+        Action::Remove(remove) => has_file(before, &remove.key()),
+        Action::Add(add) => has_file(before, &add.key()),
     }
 }
 
@@ -75,10 +78,16 @@ fn has_app(actions: &[Action], app: &Name) -> bool
     actions.iter().any(|action| is_of_app(app, action))
 }
 
-fn has_path(actions: &[Action], path: &Name) -> bool
-    ensures { result ≡ list_any (mentions path.now) actions.now }
+fn has_domain(actions: &[Action], domain: &Name) -> bool
+    ensures { result ≡ list_any (is_of_domain domain.now) actions.now }
 {
-    actions.iter().any(|action| mentions(path, action))
+    actions.iter().any(|action| is_of_domain(domain, action))
+}
+
+fn has_file(actions: &[Action], file: &Key<'_>) -> bool
+    ensures { result ≡ list_any (mentions (file_of_key file.now)) actions.now }
+{
+    actions.iter().any(|action| mentions(file, action))
 }
 
 fn is_info(action: &Action) -> bool
@@ -108,12 +117,21 @@ fn is_of_app(app: &Name, action: &Action) -> bool
     }
 }
 
-fn mentions(path: &Name, action: &Action) -> bool
-    ensures { result ≡ mentions path.now action.now }
+fn is_of_domain(domain: &Name, action: &Action) -> bool
+    ensures { result ≡ is_of_domain domain.now action.now }
 {
     match action {
-        Action::Remove(remove) => remove.path == *path,
-        Action::Add(add) => add.path == *path,
+        Action::Domain(said) => said.domain == *domain,
+        _ => false,
+    }
+}
+
+fn mentions(file: &Key<'_>, action: &Action) -> bool
+    ensures { result ≡ mentions (file_of_key file.now) action.now }
+{
+    match action {
+        Action::Remove(remove) => remove.key().is(*file),
+        Action::Add(add) => add.key().is(*file),
         _ => false,
     }
 }

@@ -11,6 +11,7 @@ pub enum Action {
     Protocol(Protocol),
     Meta(Meta),
     Txn(Txn),
+    Domain(Domain),
     Remove(Remove),
     Add(Add),
 }
@@ -72,6 +73,32 @@ pub struct Txn {
     pub number: i64,
 }
 
+/// What a domain of metadata says (Delta protocol, "Domain Metadata").
+#[derive(PartialEq, Eq, Debug, Drop)]
+pub struct Domain {
+    /// The configuration of the domain as a text, which is not read.
+    pub configuration: Name,
+    /// The name of the domain; not empty in what was read.
+    pub domain: Name,
+    /// Whether the domain is absent from here on.
+    pub removed: bool,
+}
+
+/// A deletion vector: the rows of a data file that count as deleted (Delta protocol, "Deletion Vectors").
+#[derive(PartialEq, Eq, Debug, Drop)]
+pub struct Vector {
+    /// The type of the storage: `u`, `i` or `p`, which is not looked at.
+    pub storage: Name,
+    /// The path, or the vector itself in line.
+    pub locator: Name,
+    /// Where it begins in its file, in bytes, from 0.
+    pub offset: Option<i64>,
+    /// In bytes, from 0.
+    pub size: i64,
+    /// How many rows it deletes, from 0.
+    pub cardinality: i64,
+}
+
 /// A data file that leaves the table (Delta protocol, "Add File and Remove File").
 #[derive(PartialEq, Eq, Debug, Drop)]
 pub struct Remove {
@@ -86,6 +113,8 @@ pub struct Remove {
     pub path: Name,
     /// In bytes, from 0.
     pub size: Option<i64>,
+    /// The deletion vector of the file, if it has one.
+    pub vector: Option<Vector>,
 }
 
 /// A data file of the table (Delta protocol, "Add File and Remove File").
@@ -103,6 +132,8 @@ pub struct Add {
     /// The statistics of the file as a JSON text, which is not read.
     pub stats: Option<Name>,
     pub tags: Option<Pairs>,
+    /// The deletion vector of the file, if it has one.
+    pub vector: Option<Vector>,
 }
 
 /// An equal list, or none; refused for want of memory alone.
@@ -122,6 +153,16 @@ fn copy_pairs(pairs: &Option<Pairs>) -> Result<Option<Pairs>, AllocError>
     match pairs {
         None => Ok(None),
         Some(pairs) => Ok(Some(pairs.copy()?)),
+    }
+}
+
+/// An equal vector, or none; refused for want of memory alone.
+fn copy_vector(vector: &Option<Vector>) -> Result<Option<Vector>, AllocError>
+    ensures { IfOk result (λ n. n ≡ vector.now) }
+{
+    match vector {
+        None => Ok(None),
+        Some(vector) => Ok(Some(vector.copy()?)),
     }
 }
 
@@ -204,6 +245,38 @@ impl Txn {
     }
 }
 
+impl Domain {
+    /// An equal action; refused for want of memory alone.
+    pub fn copy(&self) -> Result<Domain, AllocError>
+        ensures { IfOk result (λ n. n ≡ self.now) }
+    {
+        let configuration = self.configuration.copy()?;
+        let domain = self.domain.copy()?;
+        Ok(Domain {
+            configuration,
+            domain,
+            removed: self.removed,
+        })
+    }
+}
+
+impl Vector {
+    /// An equal vector; refused for want of memory alone.
+    pub fn copy(&self) -> Result<Vector, AllocError>
+        ensures { IfOk result (λ n. n ≡ self.now) }
+    {
+        let storage = self.storage.copy()?;
+        let locator = self.locator.copy()?;
+        Ok(Vector {
+            storage,
+            locator,
+            offset: self.offset,
+            size: self.size,
+            cardinality: self.cardinality,
+        })
+    }
+}
+
 impl Remove {
     /// An equal action; refused for want of memory alone.
     pub fn copy(&self) -> Result<Remove, AllocError>
@@ -211,6 +284,7 @@ impl Remove {
     {
         let values = copy_pairs(&self.values)?;
         let path = self.path.copy()?;
+        let vector = copy_vector(&self.vector)?;
         Ok(Remove {
             change: self.change,
             deleted: self.deleted,
@@ -218,6 +292,7 @@ impl Remove {
             values,
             path,
             size: self.size,
+            vector,
         })
     }
 }
@@ -231,6 +306,7 @@ impl Add {
         let path = self.path.copy()?;
         let stats = copy_option(&self.stats)?;
         let tags = copy_pairs(&self.tags)?;
+        let vector = copy_vector(&self.vector)?;
         Ok(Add {
             change: self.change,
             modified: self.modified,
@@ -239,6 +315,7 @@ impl Add {
             size: self.size,
             stats,
             tags,
+            vector,
         })
     }
 }
@@ -253,6 +330,7 @@ impl Action {
             Action::Protocol(protocol) => Ok(Action::Protocol(protocol.copy()?)),
             Action::Meta(meta) => Ok(Action::Meta(meta.copy()?)),
             Action::Txn(txn) => Ok(Action::Txn(txn.copy()?)),
+            Action::Domain(domain) => Ok(Action::Domain(domain.copy()?)),
             Action::Remove(remove) => Ok(Action::Remove(remove.copy()?)),
             Action::Add(add) => Ok(Action::Add(add.copy()?)),
         }

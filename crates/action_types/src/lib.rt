@@ -2,9 +2,11 @@
 #![tactic(auto)]
 
 mod actions;
+mod files;
 mod lists;
 mod text;
 
-pub use actions::{Action, Add, Format, Info, Meta, Protocol, Remove, Txn};
+pub use actions::{Action, Add, Domain, Format, Info, Meta, Protocol, Remove, Txn, Vector};
+pub use files::Key;
 pub use lists::{Names, Pairs};
 pub use text::Name;

@@ -7,7 +7,11 @@ use Rattle.reconcile.specs.declared.state.State.{State}
 use Rattle.conflict_rules.specs.Conflict.{Said, live_files, first_of, IsLowest}
 
 pub live_in-files : (state : State) (log : Log) → StandsFor state log → live_in state ≡ live_files log
-live_in-files state log h = λ i key. h.table.live key i
+live_in-files state log h = λ i file. h.table.live file i
+
+-- where the first rule holds, it decides
+pub first_decides : {X : Type 0} (x : X) (a b : Option X) → Some x ≡ a → Some x ≡ or_else a b
+first_decides x a b e = ap (λ o. or_else o b) e
 
 -- where the first rule does not hold, the rest decides
 pub rest_decides : {X : Type 0} (r a b : Option X) → a ≡ None → r ≡ b → r ≡ or_else a b

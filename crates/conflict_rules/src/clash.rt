@@ -1,3 +1,5 @@
+use action_types::Vector;
+
 /// A rule by which an intended write conflicts with a commit.
 #[derive(Clone, Copy, PartialEq, Eq, Debug)]
 pub enum Rule {
@@ -7,19 +9,24 @@ pub enum Rule {
     Metadata,
     /// The commit has a txn of the writer's application; the key is the application.
     Transaction,
-    /// The commit removes a path that the writer removes; the key is the least such path.
+    /// The commit removes a file that the writer removes; the key is the least such file.
     DeleteDelete,
-    /// The commit removes a path that the writer read; the key is the least such path.
+    /// The commit removes a file that the writer read; the key is the least such file.
     DeleteRead,
-    /// The commit adds data to a table that the writer read whole; the key is the least path added.
+    /// The commit adds data to a table that the writer read whole; the key is the least file added.
     Append,
+    /// The commit has metadata of a domain of which the writer has some; the key is the least such domain.
+    Domain,
 }
 
 /// The first rule by which an intended write conflicts with a commit, and its key.
 #[derive(Clone, Copy, PartialEq, Eq, Debug)]
 pub struct Clash<'a> {
     pub rule: Rule,
+    /// An application, a domain, the path of a file, or empty where the rule has no key.
     pub key: &'a str,
+    /// The deletion vector, where the key is a file that has one.
+    pub vector: Option<&'a Vector>,
 }
 
 /// The first of several commits that conflict with an intended write.

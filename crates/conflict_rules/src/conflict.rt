@@ -29,10 +29,13 @@ pub fn first_conflict<'a>(
 fn first_rule<'a>(intent: &'a Intent, base: &State, winner: &'a [Action]) -> Option<Clash<'a>>
     ensures { option_map said result ≡ conflict_by intent.now (live_in base.now) winner.now }
 {
-    match of_table(intent, winner) {
-        Some(clash) => Some(clash),
-        None => of_files(intent, base, winner),
+    if let Some(clash) = of_table(intent, winner) {
+        return Some(clash);
     }
+    if let Some(clash) = of_files(intent, base, winner) {
+        return Some(clash);
+    }
+    rules::by_domain(intent.domains.as_slice(), winner)
 }
 
 /// The rules on protocol, metadata and applications.

@@ -1,4 +1,4 @@
-use crate::files::{Adds, Removes};
+use crate::lists::{Adds, Domains, Removes};
 use action_types::{Name, Names, Pairs};
 
 /// How much the order of concurrent writes matters to a writer.
@@ -43,5 +43,7 @@ pub struct Intent {
     pub reads: Reads,
     pub adds: Adds,
     pub removes: Removes,
+    /// Metadata of domains to set or to remove.
+    pub domains: Domains,
     pub change: Option<Change>,
 }

@@ -3,11 +3,11 @@
 
 mod clash;
 mod conflict;
-mod files;
 mod intent;
+mod lists;
 mod rules;
 
 pub use clash::{Clash, Lowest, Rule};
 pub use conflict::{first_conflict, first_conflict_of, the_lowest_is_named};
-pub use files::{Adds, Removes};
 pub use intent::{Change, Intent, Level, Reads};
+pub use lists::{Adds, Domains, Removes};

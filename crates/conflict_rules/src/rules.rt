@@ -4,14 +4,15 @@ ghost use Rattle.std.specs.Prelude.{◌≡◌, option_map};
 ghost use Rattle.std.specs.List.{list_any, filter_map};
 ghost use Rattle.std.specs.Option.{option_copied};
 ghost use Rattle.std.specs.Str.{bytes_eq};
-ghost use Rattle.least_names.specs.Least.{least};
+ghost use Rattle.action_types.specs.Files.{file_of_key};
+ghost use Rattle.least_names.specs.Least.{least, least_file};
 ghost use Rattle.reconcile.specs.Standing.{live_in};
-ghost use Rattle.conflict_rules.specs.Conflict.{said, by_protocol, by_metadata, is_protocol, is_meta, is_remove, is_txn_of, by_transaction, is_removed, removed_twice, by_delete_delete, is_read, read_path, by_delete_read, minds_appends, reads_all, is_serializable, new_path, by_append};
+ghost use Rattle.conflict_rules.specs.Conflict.{said, at_key, at_file, by_protocol, by_metadata, is_protocol, is_meta, is_remove, is_txn_of, by_transaction, is_removed, removed_twice, by_delete_delete, is_read, read_file, by_delete_read, minds_appends, reads_all, is_serializable, new_file, by_append, has_domain, domain_twice, by_domain};
 
 use crate::clash::{Clash, Rule};
 use crate::intent::{Level, Reads};
-use action_types::{Action, Name, Remove};
-use least_names::lesser;
+use action_types::{Action, Domain, Key, Name, Remove};
+use least_names::{lesser, lesser_file};
 use reconcile::State;
 
 /// The winner has a protocol.
@@ -19,10 +20,7 @@ pub(crate) fn by_protocol(winner: &[Action]) -> Option<Clash<'_>>
     ensures { option_map said result ≡ by_protocol winner.now }
 {
     if has_protocol(winner) {
-        Some(Clash {
-            rule: Rule::Protocol,
-            key: "",
-        })
+        Some(at_key(Rule::Protocol, ""))
     } else {
         None
     }
@@ -45,10 +43,7 @@ pub(crate) fn by_metadata(winner: &[Action]) -> Option<Clash<'_>>
     ensures { option_map said result ≡ by_metadata winner.now }
 {
     if has_meta(winner) {
-        Some(Clash {
-            rule: Rule::Metadata,
-            key: "",
-        })
+        Some(at_key(Rule::Metadata, ""))
     } else {
         None
     }
@@ -83,10 +78,7 @@ pub(crate) fn by_transaction<'a>(app: &'a Name, winner: &[Action]) -> Option<Cla
     ensures { option_map said result ≡ by_transaction app.now winner.now }
 {
     if has_txn_of(app, winner) {
-        Some(Clash {
-            rule: Rule::Transaction,
-            key: app.as_str(),
-        })
+        Some(at_key(Rule::Transaction, app.as_str()))
     } else {
         None
     }
@@ -107,12 +99,28 @@ fn is_txn_of(app: &Name, action: &Action) -> bool
     }
 }
 
-/// A rule at a path, if there is one.
-fn at_path(rule: Rule, path: Option<&str>) -> Option<Clash<'_>>
-    ensures { option_map said result ≡ option_map (λ p. (rule, p)) (option_copied path.entry) }
+/// A rule at a key that is no file.
+fn at_key(rule: Rule, key: &str) -> Clash<'_>
+    ensures { said result ≡ at_key rule key.now }
 {
-    match path {
-        Some(key) => Some(Clash { rule, key }),
+    Clash {
+        rule,
+        key,
+        vector: None,
+    }
+}
+
+/// A rule at a file, if there is one.
+fn at_file(rule: Rule, file: Option<Key<'_>>) -> Option<Clash<'_>>
+    ensures { option_map said result
+        ≡ option_map (at_file rule) (option_map file_of_key file.entry) }
+{
+    match file {
+        Some(file) => Some(Clash {
+            rule,
+            key: file.path,
+            vector: file.vector,
+        }),
         None => None,
     }
 }
@@ -121,34 +129,35 @@ fn at_path(rule: Rule, path: Option<&str>) -> Option<Clash<'_>>
 pub(crate) fn by_delete_delete<'a>(removes: &[Remove], winner: &'a [Action]) -> Option<Clash<'a>>
     ensures { option_map said result ≡ by_delete_delete removes.now winner.now }
 {
-    at_path(Rule::DeleteDelete, least_removed_twice(removes, winner))
+    at_file(Rule::DeleteDelete, least_removed_twice(removes, winner))
 }
 
-fn least_removed_twice<'a>(removes: &[Remove], winner: &'a [Action]) -> Option<&'a str>
-    ensures { option_copied result ≡ least (filter_map (removed_twice removes.now) winner.now) }
+fn least_removed_twice<'a>(removes: &[Remove], winner: &'a [Action]) -> Option<Key<'a>>
+    ensures { option_map file_of_key result
+        ≡ least_file (filter_map (removed_twice removes.now) winner.now) }
 {
     let mut best = None;
     for action in winner {
-        if let Some(path) = removed_twice(removes, action) {
-            best = lesser(best, path);
+        if let Some(file) = removed_twice(removes, action) {
+            best = lesser_file(best, file);
         }
     }
     best
 }
 
-fn removed_twice<'a>(removes: &[Remove], action: &'a Action) -> Option<&'a str>
-    ensures { option_copied result ≡ removed_twice removes.now action.now }
+fn removed_twice<'a>(removes: &[Remove], action: &'a Action) -> Option<Key<'a>>
+    ensures { option_map file_of_key result ≡ removed_twice removes.now action.now }
 {
     match action {
-        Action::Remove(remove) if is_removed(removes, &remove.path) => Some(remove.path.as_str()),
+        Action::Remove(remove) if is_removed(removes, remove.key()) => Some(remove.key()),
         _ => None,
     }
 }
 
-fn is_removed(removes: &[Remove], path: &Name) -> bool
-    ensures { result ≡ is_removed removes.now path.now }
+fn is_removed(removes: &[Remove], file: Key) -> bool
+    ensures { result ≡ is_removed removes.now (file_of_key file.entry) }
 {
-    removes.iter().any(|own| path.cmp(&own.path).is_eq())
+    removes.iter().any(|own| file.is(own.key()))
 }
 
 /// The winner removes a file that the intent read.
@@ -159,26 +168,27 @@ pub(crate) fn by_delete_read<'a>(
 ) -> Option<Clash<'a>>
     ensures { option_map said result ≡ by_delete_read reads.now (live_in base.now) winner.now }
 {
-    at_path(Rule::DeleteRead, least_read_path(reads, base, winner))
+    at_file(Rule::DeleteRead, least_read_file(reads, base, winner))
 }
 
-fn least_read_path<'a>(reads: &Reads, base: &State, winner: &'a [Action]) -> Option<&'a str>
-    ensures { option_copied result ≡ least (filter_map (read_path reads.now (live_in base.now)) winner.now) }
+fn least_read_file<'a>(reads: &Reads, base: &State, winner: &'a [Action]) -> Option<Key<'a>>
+    ensures { option_map file_of_key result
+        ≡ least_file (filter_map (read_file reads.now (live_in base.now)) winner.now) }
 {
     let mut best = None;
     for action in winner {
-        if let Some(path) = read_path(reads, base, action) {
-            best = lesser(best, path);
+        if let Some(file) = read_file(reads, base, action) {
+            best = lesser_file(best, file);
         }
     }
     best
 }
 
-fn read_path<'a>(reads: &Reads, base: &State, action: &'a Action) -> Option<&'a str>
-    ensures { option_copied result ≡ read_path reads.now (live_in base.now) action.now }
+fn read_file<'a>(reads: &Reads, base: &State, action: &'a Action) -> Option<Key<'a>>
+    ensures { option_map file_of_key result ≡ read_file reads.now (live_in base.now) action.now }
 {
     match action {
-        Action::Remove(remove) if is_read(reads, base, remove) => Some(remove.path.as_str()),
+        Action::Remove(remove) if is_read(reads, base, remove) => Some(remove.key()),
         _ => None,
     }
 }
@@ -188,7 +198,7 @@ fn is_read(reads: &Reads, base: &State, remove: &Remove) -> bool
 {
     match reads {
         Reads::None => false,
-        Reads::All => base.live(remove.path.as_str()).is_some(),
+        Reads::All => base.live(remove.key()).is_some(),
         Reads::Paths(paths) => names_have(paths.as_slice(), &remove.path),
     }
 }
@@ -204,7 +214,7 @@ pub(crate) fn by_append<'a>(level: Level, reads: &Reads, winner: &'a [Action]) -
     ensures { option_map said result ≡ by_append level reads.now winner.now }
 {
     if minds_appends(level, reads, winner) {
-        at_path(Rule::Append, least_new_path(winner))
+        at_file(Rule::Append, least_new_file(winner))
     } else {
         None
     }
@@ -228,23 +238,62 @@ fn is_serializable(level: Level) -> bool
     matches!(level, Level::Serializable)
 }
 
-fn least_new_path(winner: &[Action]) -> Option<&str>
-    ensures { option_copied result ≡ least (filter_map new_path winner.now) }
+fn least_new_file(winner: &[Action]) -> Option<Key<'_>>
+    ensures { option_map file_of_key result ≡ least_file (filter_map new_file winner.now) }
 {
     let mut best = None;
     for action in winner {
-        if let Some(path) = new_path(action) {
-            best = lesser(best, path);
+        if let Some(file) = new_file(action) {
+            best = lesser_file(best, file);
         }
     }
     best
 }
 
-fn new_path(action: &Action) -> Option<&str>
-    ensures { option_copied result ≡ new_path action.now }
+fn new_file(action: &Action) -> Option<Key<'_>>
+    ensures { option_map file_of_key result ≡ new_file action.now }
 {
     match action {
-        Action::Add(add) if add.change => Some(add.path.as_str()),
+        Action::Add(add) if add.change => Some(add.key()),
         _ => None,
     }
+}
+
+/// The winner has metadata of a domain of which the intent has some.
+pub(crate) fn by_domain<'a>(domains: &[Domain], winner: &'a [Action]) -> Option<Clash<'a>>
+    ensures { option_map said result ≡ by_domain domains.now winner.now }
+{
+    match least_domain_twice(domains, winner) {
+        Some(name) => Some(at_key(Rule::Domain, name)),
+        None => None,
+    }
+}
+
+fn least_domain_twice<'a>(domains: &[Domain], winner: &'a [Action]) -> Option<&'a str>
+    ensures { option_copied result ≡ least (filter_map (domain_twice domains.now) winner.now) }
+{
+    let mut best = None;
+    for action in winner {
+        if let Some(name) = domain_twice(domains, action) {
+            best = lesser(best, name);
+        }
+    }
+    best
+}
+
+fn domain_twice<'a>(domains: &[Domain], action: &'a Action) -> Option<&'a str>
+    ensures { option_copied result ≡ domain_twice domains.now action.now }
+{
+    match action {
+        Action::Domain(domain) if has_domain(domains, &domain.domain) => Some(
+            domain.domain.as_str(),
+        ),
+        _ => None,
+    }
+}
+
+fn has_domain(domains: &[Domain], name: &Name) -> bool
+    ensures { result ≡ has_domain domains.now name.now }
+{
+    domains.iter().any(|own| own.domain == *name)
 }

@@ -1,20 +1,36 @@
 //! What a write or a create composes, and why not.
 
-ghost use Rattle.std.specs.Prelude.{◌≡◌, pos, [], ◌∷◌, IfOk, None, true};
+ghost use Rattle.std.specs.Prelude.{◌≡◌, pos, [], ◌∷◌, IfOk, None, codes, true};
 ghost use Rattle.staged_commit.specs.Composed.{IsAppend, IsCreate};
 
 use crate::shorts::state;
-use action_types::{Add, Name, Names, Pairs};
+use action_types::{Add, Name, Names, Pairs, Vector};
 use staged_commit::{
-    Adds, ComposeError, Composed, Create, Intent, Level, Reads, Removes, compose, compose_create,
+    Adds, ComposeError, Composed, Create, Domains, Intent, Level, Reads, Removes, compose,
+    compose_create,
 };
 use std::alloc::Global;
 use std::str;
 use std::test::Fail;
 
-/// A file of this path.
-fn add(alloc: Global, path: &str) -> Result<Add, Fail>
-    ensures { IfOk result (λ a. a ≡ record { change = true; modified = pos 5; values = []; path = path.now; size = pos 10; stats = None; tags = None }) }
+/// A deletion vector without an offset, whose unique id is `ux1`.
+fn vector(alloc: Global) -> Result<Vector, Fail>
+    ensures { IfOk result (λ v. v ≡ record { storage = codes "u"; locator = codes "x1"; offset = None; size = pos 40; cardinality = pos 6 }) }
+{
+    let storage = Name::from_str(alloc, "u")?;
+    let locator = Name::from_str(alloc, "x1")?;
+    Ok(Vector {
+        storage,
+        locator,
+        offset: None,
+        size: 40,
+        cardinality: 6,
+    })
+}
+
+/// A file of this path, with a vector or without one.
+fn add(alloc: Global, path: &str, vector: Option<Vector>) -> Result<Add, Fail>
+    ensures { IfOk result (λ a. a ≡ record { change = true; modified = pos 5; values = []; path = path.now; size = pos 10; stats = None; tags = None; vector = vector }) }
 {
     let path = Name::from_str(alloc, path)?;
     Ok(Add {
@@ -25,18 +41,19 @@ fn add(alloc: Global, path: &str) -> Result<Add, Fail>
         size: 10,
         stats: None,
         tags: None,
+        vector,
     })
 }
 
 /// An append of two files, the later one first.
-#[tactic(auto, unfolding(action_fields::specs::Valid::has_valid_fields, staged_commit::specs::Adds::have_own_paths))]
+#[tactic(auto, unfolding(action_fields::specs::Valid::has_valid_fields, action_types::specs::Files::file_cmp, staged_commit::specs::Adds::have_own_files))]
 fn append(alloc: Global, number: i64) -> Result<Intent, Fail>
     ensures { IfOk result IsAppend }
 {
     let app = Name::from_str(alloc, "A")?;
     let mut adds = Adds::new(alloc);
-    adds.push(add(alloc, "b")?)?;
-    adds.push(add(alloc, "a")?)?;
+    adds.push(add(alloc, "b", None)?)?;
+    adds.push(add(alloc, "a", None)?)?;
     Ok(Intent {
         app,
         number,
@@ -44,6 +61,29 @@ fn append(alloc: Global, number: i64) -> Result<Intent, Fail>
         reads: Reads::None,
         adds,
         removes: Removes::new(alloc),
+        domains: Domains::new(alloc),
+        change: None,
+    })
+}
+
+/// An append of two files of one path, the one with a vector first.
+#[tactic(auto, unfolding(action_fields::specs::Valid::has_valid_fields, action_types::specs::Files::file_cmp, staged_commit::specs::Adds::have_own_files))]
+fn marked_append(alloc: Global) -> Result<Intent, Fail>
+    ensures { IfOk result IsAppend }
+{
+    let app = Name::from_str(alloc, "A")?;
+    let mut adds = Adds::new(alloc);
+    let vector = vector(alloc)?;
+    adds.push(add(alloc, "a", Some(vector))?)?;
+    adds.push(add(alloc, "a", None)?)?;
+    Ok(Intent {
+        app,
+        number: 1,
+        level: Level::WriteSerializable,
+        reads: Reads::None,
+        adds,
+        removes: Removes::new(alloc),
+        domains: Domains::new(alloc),
         change: None,
     })
 }
@@ -88,6 +128,14 @@ fn appended(
     said(alloc, &compose(alloc, &state, &intent, 2, 1000, limit))
 }
 
+/// What the append of two files of one path composes, where the table has this feature more than it needs.
+fn marked(alloc: Global, feature: &str) -> Result<String, Fail> {
+    let log = format!(in alloc; "info 1000; protocol {feature}; meta; txn A 0")?;
+    let state = state(alloc, log.as_str())?;
+    let intent = marked_append(alloc)?;
+    said(alloc, &compose(alloc, &state, &intent, 2, 1000, 1_000_000))
+}
+
 /// What a create composes under id 1 where the clock says 1000.
 fn created(alloc: Global, limit: u64) -> Result<String, Fail> {
     let create = create(alloc)?;
@@ -103,7 +151,7 @@ const APPENDED: &str = concat!(
 
 const NOT_AFTER: &str = "Broken(TxnNotAfter { app: \"A\", recorded: 0 })";
 
-const PARTITION: &str = "Broken(Partition { path: \"a\" })";
+const PARTITION: &str = "Broken(Partition { path: \"a\", vector: None })";
 
 const TIME_END: &str = "TimeEnd { last: 9223372036854775807 }";
 
@@ -121,6 +169,25 @@ const APPENDS: [((i64, &str, i64, u64), &str); 6] = [
 fn appends(rt: HostRuntime) -> Result<(), Fail> {
     for (row, wanted) in APPENDS {
         assert_eq!(rt; appended(rt.alloc(), row)?.as_str(), wanted);
+    }
+    Ok(())
+}
+
+const MARKED: &str = concat!(
+    "{\"commitInfo\":{\"inCommitTimestamp\":1001,\"txnId\":\"00000000-0000-0000-0000-000000000002\"}}\n",
+    "{\"txn\":{\"appId\":\"A\",\"version\":1}}\n",
+    "{\"add\":{\"dataChange\":true,\"modificationTime\":5,\"partitionValues\":{},\"path\":\"a\",\"size\":10}}\n",
+    "{\"add\":{\"dataChange\":true,",
+    "\"deletionVector\":{\"cardinality\":6,\"pathOrInlineDv\":\"x1\",\"sizeInBytes\":40,\"storageType\":\"u\"},",
+    "\"modificationTime\":5,\"partitionValues\":{},\"path\":\"a\",\"size\":10}}\n"
+);
+
+const UNTOLD_VECTOR: &str = "Broken(Vector { path: \"a\", vector: Some(\"ux1\") })";
+
+#[test]
+fn appends_of_files_with_vectors(rt: HostRuntime) -> Result<(), Fail> {
+    for (feature, wanted) in [("deletionVectors", MARKED), ("", UNTOLD_VECTOR)] {
+        assert_eq!(rt; marked(rt.alloc(), feature)?.as_str(), wanted);
     }
     Ok(())
 }

@@ -1,11 +1,11 @@
-//! The first conflict of a write with the commits that were ratified before it, and the least of names.
+//! The first conflict of a write with the commits that were ratified before it, and the least of names and of files.
 
-use crate::shorts::{add, commit, names, remove, state};
-use action_types::Name;
+use crate::shorts::{add, commit, domain, names, remove, state};
+use action_types::{Key, Name};
 use conflict_rules::{
-    Adds, Clash, Intent, Level, Reads, Removes, first_conflict, first_conflict_of,
+    Adds, Clash, Domains, Intent, Level, Reads, Removes, first_conflict, first_conflict_of,
 };
-use least_names::lesser;
+use least_names::{lesser, lesser_file};
 use reconcile::State;
 use std::alloc::Global;
 use std::slice;
@@ -20,28 +20,44 @@ fn reads(alloc: Global, text: &str) -> Result<Reads, Fail> {
     }
 }
 
-/// The removes of these paths.
+/// The removes of these files.
 fn removes(alloc: Global, removed: &str) -> Result<Removes, Fail> {
     let mut removes = Removes::new(alloc);
-    for path in removed.split_whitespace() {
-        removes.push(remove(alloc, path, None)?)?;
+    for file in removed.split_whitespace() {
+        removes.push(remove(alloc, file, None)?)?;
     }
     Ok(removes)
 }
 
-/// One add.
-fn adds(alloc: Global) -> Result<Adds, Fail> {
+/// The adds of these files.
+fn adds(alloc: Global, added: &str) -> Result<Adds, Fail> {
     let mut adds = Adds::new(alloc);
-    adds.push(add(alloc, "new", 10)?)?;
+    for file in added.split_whitespace() {
+        adds.push(add(alloc, file, 10)?)?;
+    }
     Ok(adds)
 }
 
-/// An intent of the application A.
-fn intent(alloc: Global, level: Level, read: &str, removed: &str) -> Result<Intent, Fail> {
+/// Metadata of these domains.
+fn domains(alloc: Global, named: &str) -> Result<Domains, Fail> {
+    let mut domains = Domains::new(alloc);
+    for name in named.split_whitespace() {
+        domains.push(domain(alloc, name, "c", false)?)?;
+    }
+    Ok(domains)
+}
+
+/// An intent of the application A that reads these files, removes those, and has metadata of these domains.
+fn intent(
+    alloc: Global,
+    level: Level,
+    (read, removed, named): (&str, &str, &str),
+) -> Result<Intent, Fail> {
     let app = Name::from_str(alloc, "A")?;
     let reads = reads(alloc, read)?;
-    let adds = adds(alloc)?;
+    let adds = adds(alloc, "new")?;
     let removes = removes(alloc, removed)?;
+    let domains = domains(alloc, named)?;
     Ok(Intent {
         app,
         number: 1,
@@ -49,8 +65,21 @@ fn intent(alloc: Global, level: Level, read: &str, removed: &str) -> Result<Inte
         reads,
         adds,
         removes,
+        domains,
         change: None,
     })
+}
+
+/// A key and, where it is a file with a deletion vector, the vector's unique id.
+fn named(alloc: Global, key: Key) -> Result<String, Fail> {
+    let path = key.path;
+    match key.id(alloc)? {
+        None => Ok(String::from_str(alloc, path)?),
+        Some(id) => {
+            let id = id.as_str();
+            Ok(format!(in alloc; "{path} {id}")?)
+        }
+    }
 }
 
 /// What a conflict says, in a line.
@@ -59,28 +88,34 @@ fn said(alloc: Global, clash: Option<Clash>) -> Result<String, Fail> {
         None => Ok(String::from_str(alloc, "")?),
         Some(clash) => {
             let rule = clash.rule;
-            let key = clash.key;
+            let key = named(
+                alloc,
+                Key {
+                    path: clash.key,
+                    vector: clash.vector,
+                },
+            )?;
             Ok(format!(in alloc; "{rule:?} {key}")?)
         }
     }
 }
 
-/// The base: `a` and `b` are live, and `gone` is a tombstone.
+/// The base: `a`, `b` and `c` with a vector are live, and `gone` is a tombstone.
 fn base(alloc: Global) -> Result<State, Fail> {
     state(
         alloc,
-        "info; protocol; meta; add a; add b; add gone/info; remove gone",
+        "info; protocol; meta; add a; add b; add c#x1@4; add gone/info; remove gone",
     )
 }
 
-/// What the conflict of an intent with a winner says, where a row is the reads, the removes and the
-/// winner, with a `|` between them.
+/// What the conflict of an intent with a winner says, where a row is the reads, the removes, the winner and, if there
+/// are any, the domains, with a `|` between them.
 fn conflict(alloc: Global, level: Level, row: &str) -> Result<String, Fail> {
     let mut parts = row.split('|');
     let read = parts.next().unwrap_or("");
     let removed = parts.next().unwrap_or("");
     let winner = commit(alloc, parts.next().unwrap_or(""))?;
-    let intent = intent(alloc, level, read, removed)?;
+    let intent = intent(alloc, level, (read, removed, parts.next().unwrap_or("")))?;
     let base = base(alloc)?;
     said(alloc, first_conflict(&intent, &base, winner.as_slice()))
 }
@@ -114,6 +149,42 @@ fn conflicts(rt: HostRuntime) -> Result<(), Fail> {
     Ok(())
 }
 
+/// The same of files with deletion vectors, and of domains.
+const VECTORS: [(&str, &str); 14] = [
+    ("none|a#x1@4|info; remove a#x1@4", "DeleteDelete a ux1@4"),
+    ("none|a|info; remove a#x1@4", ""),
+    ("none|a#x1@4|info; remove a#x1@5; remove a", ""),
+    (
+        "none|a#x1@4 a|info; remove a#x1@4; remove a",
+        "DeleteDelete a",
+    ),
+    (
+        "none|a#x1@4 a#x1@10|info; remove a#x1@4; remove a#x1@10",
+        "DeleteDelete a ux1@10",
+    ),
+    ("b||info; remove b#x1@4", "DeleteRead b ux1@4"),
+    ("all||info; remove c#x1@4", "DeleteRead c ux1@4"),
+    ("all||info; remove c; remove a#x1@4", ""),
+    (
+        "all||info; remove gone; add x#x1@4; add x#x1",
+        "Append x ux1",
+    ),
+    ("none||info; domain d|d", "Domain d"),
+    ("none||info; domain e; undomain d|d e", "Domain d"),
+    ("none||info; domain e|d", ""),
+    ("all||info; domain d", ""),
+    ("none|a|info; domain d; remove a|d", "DeleteDelete a"),
+];
+
+#[test]
+fn conflicts_of_vectors_and_domains(rt: HostRuntime) -> Result<(), Fail> {
+    for (row, wanted) in VECTORS {
+        let clash = conflict(rt.alloc(), Level::WriteSerializable, row)?;
+        assert_eq!(rt; clash.as_str(), wanted, "{row}");
+    }
+    Ok(())
+}
+
 /// The same with a serializable writer.
 const SERIALIZABLE: [(&str, &str); 5] = [
     ("none||info; add x; remove a", ""),
@@ -134,7 +205,7 @@ fn serializable_conflicts(rt: HostRuntime) -> Result<(), Fail> {
 
 /// The place of the first winner that conflicts, where the only one does.
 fn first_place(alloc: Global) -> Result<Option<usize>, Fail> {
-    let intent = intent(alloc, Level::WriteSerializable, "b", "a")?;
+    let intent = intent(alloc, Level::WriteSerializable, ("b", "a", ""))?;
     let winner = commit(alloc, "info; remove b; remove a")?;
     let base = base(alloc)?;
     let lowest = first_conflict_of(&intent, &base, slice::from_ref(&winner));
@@ -154,4 +225,36 @@ fn least_of_names(rt: HostRuntime) {
         best = lesser(best, name);
     }
     assert_eq!(rt; best, Some("B"));
+}
+
+/// The least of these files.
+fn least_of(alloc: Global, text: &str) -> Result<String, Fail> {
+    let adds = adds(alloc, text)?;
+    let mut best = None;
+    for add in adds.as_slice() {
+        best = lesser_file(best, add.key());
+    }
+    match best {
+        None => Ok(String::new(alloc)),
+        Some(file) => named(alloc, file),
+    }
+}
+
+/// Files and the least of them.
+const FILES: [(&str, &str); 7] = [
+    ("", ""),
+    ("b a", "a"),
+    ("a#x1@4 a a#x1", "a"),
+    ("a#x1@4 a#x1", "a ux1"),
+    ("a#x1@4 a#x1@10", "a ux1@10"),
+    ("b a#x1@4", "a ux1@4"),
+    ("aa a#x1@4", "a ux1@4"),
+];
+
+#[test]
+fn least_of_files(rt: HostRuntime) -> Result<(), Fail> {
+    for (text, wanted) in FILES {
+        assert_eq!(rt; least_of(rt.alloc(), text)?.as_str(), wanted, "{text}");
+    }
+    Ok(())
 }

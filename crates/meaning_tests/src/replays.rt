@@ -1,8 +1,8 @@
 //! The state of a list of commits, and what a plain search of the list finds.
 
-use crate::shorts::{add, meta, protocol, remove};
+use crate::shorts::{self, add, domain, meta, path_of, protocol, remove, vector_of};
 use action_types::{Action, Info, Name, Txn};
-use reconcile::{State, plain};
+use reconcile::{Key, State, plain};
 use std::alloc::{AllocError, Global};
 use std::test::Fail;
 
@@ -13,12 +13,14 @@ enum Kind {
     Protocol,
     Meta,
     Txn,
+    Domain,
+    Undomain,
     Remove,
     Add,
 }
 
-/// An action in short: its kind, the path or application that it names, and its number (a time, a version
-/// or a size).
+/// An action in short: its kind, the file, application or domain that it names, and its number (a time, a
+/// version or a size).
 type Short = (Kind, &'static str, i64);
 
 fn numbered_protocol(alloc: Global, reader: i64) -> Result<Action, Fail> {
@@ -50,6 +52,8 @@ fn action(alloc: Global, short: Short) -> Result<Action, Fail> {
         Kind::Protocol => numbered_protocol(alloc, number),
         Kind::Meta => numbered_meta(alloc, number),
         Kind::Txn => numbered_txn(alloc, name, number),
+        Kind::Domain => Ok(Action::Domain(domain(alloc, name, "c", false)?)),
+        Kind::Undomain => Ok(Action::Domain(domain(alloc, name, "c", true)?)),
         Kind::Remove => Ok(Action::Remove(remove(alloc, name, Some(number))?)),
         Kind::Add => Ok(Action::Add(add(alloc, name, number)?)),
     }
@@ -81,9 +85,13 @@ struct Seen {
 }
 
 fn look_at(state: &State) -> Seen {
+    let key = Key {
+        path: "a",
+        vector: None,
+    };
     Seen {
-        size: state.live("a").map(|add| add.size),
-        deleted: state.gone("a").and_then(|remove| remove.deleted),
+        size: state.live(key).map(|add| add.size),
+        deleted: state.gone(key).and_then(|remove| remove.deleted),
         number: state.number("A"),
         time: state.time(),
     }
@@ -151,22 +159,25 @@ fn remove_and_add_again(rt: HostRuntime) -> Result<(), Fail> {
     Ok(())
 }
 
-const PATHS: [&str; 4] = ["a", "b", "b/c", "é"];
+const FILES: [&str; 8] = ["a", "a#x", "a#x@1", "a#x@10", "b", "b#", "b/c", "é"];
 
-/// The action of a number: of each kind, over the four paths, which are applications' ids too.
+/// The action of a number: of each kind, over the eight files, whose words are ids of applications and names
+/// of domains too.
 fn made_short(number: u64) -> Short {
-    let kind = match number % 8 {
+    let kind = match number % 10 {
         0 => Kind::Info,
         1 => Kind::Protocol,
         2 => Kind::Meta,
         3 => Kind::Txn,
-        4 | 5 => Kind::Remove,
+        4 => Kind::Domain,
+        5 => Kind::Undomain,
+        6 | 7 => Kind::Remove,
         _ => Kind::Add,
     };
     (
         kind,
-        PATHS[(number / 8 % 4) as usize],
-        (number / 32 % 1000) as i64,
+        FILES[(number / 10 % 8) as usize],
+        (number / 80 % 1000) as i64,
     )
 }
 
@@ -189,7 +200,7 @@ fn made_log(alloc: Global, seed: u64, len: u64) -> Result<Vec<Vec<Action>>, Fail
 
 fn files_agree(state: &State, commits: &[Vec<Action>]) -> bool {
     for file in state.files() {
-        if plain::live(commits, file.path.as_str()).map(|a| a.size) != Some(file.size) {
+        if plain::live(commits, file.key()).map(|a| a.size) != Some(file.size) {
             return false;
         }
     }
@@ -198,7 +209,7 @@ fn files_agree(state: &State, commits: &[Vec<Action>]) -> bool {
 
 fn tombstones_agree(state: &State, commits: &[Vec<Action>]) -> bool {
     for gone in state.tombstones() {
-        if plain::gone(commits, gone.path.as_str()).map(|r| r.deleted) != Some(gone.deleted) {
+        if plain::gone(commits, gone.key()).map(|r| r.deleted) != Some(gone.deleted) {
             return false;
         }
     }
@@ -214,20 +225,50 @@ fn txns_agree(state: &State, commits: &[Vec<Action>]) -> bool {
     true
 }
 
-/// Whether the look-ups of a path, which is an application's id too, are what the plain search finds.
-fn path_agrees(state: &State, commits: &[Vec<Action>], path: &str) -> bool {
-    state.live(path).map(|a| a.size) == plain::live(commits, path).map(|a| a.size)
-        && state.gone(path).map(|r| r.deleted) == plain::gone(commits, path).map(|r| r.deleted)
-        && state.number(path) == plain::number(commits, path)
-}
-
-fn paths_agree(state: &State, commits: &[Vec<Action>]) -> bool {
-    for path in PATHS {
-        if !path_agrees(state, commits, path) {
+fn domains_agree(state: &State, commits: &[Vec<Action>]) -> bool {
+    for domain in state.domains() {
+        if plain::domain(commits, domain.domain.as_str()) != Some(domain) {
             return false;
         }
     }
     true
+}
+
+/// Whether the look-ups of a file are what the plain search finds.
+fn key_agrees(state: &State, commits: &[Vec<Action>], key: Key<'_>) -> bool {
+    state.live(key).map(|a| a.size) == plain::live(commits, key).map(|a| a.size)
+        && state.gone(key).map(|r| r.deleted) == plain::gone(commits, key).map(|r| r.deleted)
+}
+
+/// Whether the look-ups of a word, which is an application's id and a domain's name, are what the plain
+/// search finds.
+fn name_agrees(state: &State, commits: &[Vec<Action>], name: &str) -> bool {
+    state.number(name) == plain::number(commits, name)
+        && state.domain(name).is_some() == plain::domain(commits, name).is_some()
+}
+
+/// Whether the look-ups of a file in short are what the plain search finds.
+fn file_agrees(
+    alloc: Global,
+    state: &State,
+    commits: &[Vec<Action>],
+    file: &str,
+) -> Result<bool, Fail> {
+    let vector = vector_of(alloc, file)?;
+    let key = Key {
+        path: path_of(file),
+        vector: vector.as_ref(),
+    };
+    Ok(key_agrees(state, commits, key) && name_agrees(state, commits, file))
+}
+
+fn look_ups_agree(alloc: Global, state: &State, commits: &[Vec<Action>]) -> Result<bool, Fail> {
+    for file in FILES {
+        if !file_agrees(alloc, state, commits, file)? {
+            return Ok(false);
+        }
+    }
+    Ok(true)
 }
 
 fn table_agrees(state: &State, commits: &[Vec<Action>]) -> bool {
@@ -240,7 +281,7 @@ fn same(state: &State, commits: &[Vec<Action>]) -> bool {
     files_agree(state, commits)
         && tombstones_agree(state, commits)
         && txns_agree(state, commits)
-        && paths_agree(state, commits)
+        && domains_agree(state, commits)
         && table_agrees(state, commits)
 }
 
@@ -248,7 +289,7 @@ fn same(state: &State, commits: &[Vec<Action>]) -> bool {
 fn made_log_agrees(alloc: Global, seed: u64, len: u64) -> Result<bool, Fail> {
     let commits = made_log(alloc, seed, len)?;
     let state = state_of(alloc, commits.as_slice())?;
-    Ok(same(&state, commits.as_slice()))
+    Ok(same(&state, commits.as_slice()) && look_ups_agree(alloc, &state, commits.as_slice())?)
 }
 
 #[test]
@@ -258,6 +299,137 @@ fn made_logs_as_the_plain_search(rt: HostRuntime) -> Result<(), Fail> {
             made_log_agrees(rt.alloc(), seed * 100, seed)?,
             "log {seed}"
         );
+    }
+    Ok(())
+}
+
+/// Commits in short, and the files, tombstones and domains of their state in order: a file as its path and,
+/// behind a `#`, the unique id of its vector, a domain as its name, `=` and its configuration.
+struct Row {
+    log: &'static str,
+    files: &'static str,
+    removed: &'static str,
+    domains: &'static str,
+}
+
+const ROWS: [Row; 9] = [
+    // One path under two vectors and without one: three files.
+    Row {
+        log: "info 1;add a;add a#x1@4;add a#x1",
+        files: "a a#ux1 a#ux1@4 ",
+        removed: "",
+        domains: "",
+    },
+    // A remove of one of two vectors leaves the other.
+    Row {
+        log: "info 1;add a#x1@4;add a#x1@5/info 2;remove a#x1@4",
+        files: "a#ux1@5 ",
+        removed: "a#ux1@4 ",
+        domains: "",
+    },
+    // A remove of the file without a vector leaves the vector's.
+    Row {
+        log: "info 1;add a;add a#x1@4/info 2;remove a",
+        files: "a#ux1@4 ",
+        removed: "a ",
+        domains: "",
+    },
+    // The same file with a vector in place of none, and back.
+    Row {
+        log: "info 1;add a#x1@4/info 2;remove a#x1@4;add a",
+        files: "a ",
+        removed: "a#ux1@4 ",
+        domains: "",
+    },
+    // A file added again under the same unique id.
+    Row {
+        log: "info 1;add a#x1@4/info 2;add a#x1@4",
+        files: "a#ux1@4 ",
+        removed: "",
+        domains: "",
+    },
+    // By path, and under one path by the bytes of the unique id.
+    Row {
+        log: "info 1;add b;add a-b;add a#y;add b#x;add a#x@9/info 2;add a;add a#x@10",
+        files: "a a#ux@10 a#ux@9 a#uy a-b b b#ux ",
+        removed: "",
+        domains: "",
+    },
+    // Removed files are in the same order.
+    Row {
+        log: "info 1;add b;add a#y;add a#x;add a/info 2;remove b;remove a#y;remove a;remove a#x",
+        files: "",
+        removed: "a a#ux a#uy b ",
+        domains: "",
+    },
+    // Domains by name, each with its last configuration.
+    Row {
+        log: "info 1;domain e 1;domain d 1/info 2;domain d 2",
+        files: "",
+        removed: "",
+        domains: "d=2 e=1 ",
+    },
+    // A removed domain is absent.
+    Row {
+        log: "info 1;domain d c;domain e c/info 2;undomain d c",
+        files: "",
+        removed: "",
+        domains: "e=c ",
+    },
+];
+
+/// A file behind those that are listed.
+fn list_file(alloc: Global, text: &mut String, key: Key<'_>) -> Result<(), Fail> {
+    text.push_str(key.path)?;
+    if let Some(vector) = key.vector {
+        text.push('#')?;
+        text.push_str(vector.unique_id(alloc)?.as_str())?;
+    }
+    text.push(' ')?;
+    Ok(())
+}
+
+fn listed_files(alloc: Global, state: &State) -> Result<String, Fail> {
+    let mut text = String::new(alloc);
+    for add in state.files() {
+        list_file(alloc, &mut text, add.key())?;
+    }
+    Ok(text)
+}
+
+fn listed_tombstones(alloc: Global, state: &State) -> Result<String, Fail> {
+    let mut text = String::new(alloc);
+    for remove in state.tombstones() {
+        list_file(alloc, &mut text, remove.key())?;
+    }
+    Ok(text)
+}
+
+fn listed_domains(alloc: Global, state: &State) -> Result<String, Fail> {
+    let mut text = String::new(alloc);
+    for domain in state.domains() {
+        text.push_str(domain.domain.as_str())?;
+        text.push('=')?;
+        text.push_str(domain.configuration.as_str())?;
+        text.push(' ')?;
+    }
+    Ok(text)
+}
+
+/// Whether the state of a row's commits is listed as the row says.
+fn row_holds(alloc: Global, row: &Row) -> Result<bool, Fail> {
+    let state = shorts::state(alloc, row.log)?;
+    Ok(
+        listed_files(alloc, &state)?.as_str() == row.files
+            && listed_tombstones(alloc, &state)?.as_str() == row.removed
+            && listed_domains(alloc, &state)?.as_str() == row.domains,
+    )
+}
+
+#[test]
+fn files_and_domains_in_order(rt: HostRuntime) -> Result<(), Fail> {
+    for row in &ROWS {
+        assert!(rt; row_holds(rt.alloc(), row)?, "{}", row.log);
     }
     Ok(())
 }

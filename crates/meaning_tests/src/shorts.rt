@@ -1,6 +1,8 @@
 //! Commits in short: an action is a few words, actions stand with a `;` between them, and commits with a `/` between them.
 
-use action_types::{Action, Add, Format, Info, Meta, Name, Names, Pairs, Protocol, Remove, Txn};
+use action_types::{
+    Action, Add, Domain, Format, Info, Meta, Name, Names, Pairs, Protocol, Remove, Txn, Vector,
+};
 use reconcile::State;
 use std::alloc::Global;
 use std::test::Fail;
@@ -83,9 +85,49 @@ pub fn meta(alloc: Global, form: &str, column: &str) -> Result<Meta, Fail> {
     })
 }
 
-/// An add of a file of so many bytes.
-pub fn add(alloc: Global, path: &str, size: i64) -> Result<Add, Fail> {
-    let path = Name::from_str(alloc, path)?;
+/// The path of a file in short: a path, or a path, `#` and a vector.
+pub fn path_of(file: &str) -> &str {
+    match file.split_once('#') {
+        Some((path, _)) => path,
+        None => file,
+    }
+}
+
+/// The vector of a file in short, if it has one: a locator, or a locator, `@` and an offset.
+pub fn vector_of(alloc: Global, file: &str) -> Result<Option<Vector>, Fail> {
+    match file.split_once('#') {
+        Some((_, text)) => Ok(Some(vector(alloc, text)?)),
+        None => Ok(None),
+    }
+}
+
+fn vector(alloc: Global, text: &str) -> Result<Vector, Fail> {
+    let storage = Name::from_str(alloc, "u")?;
+    let locator = Name::from_str(alloc, text.split('@').next().unwrap_or(""))?;
+    Ok(Vector {
+        storage,
+        locator,
+        offset: text.split_once('@').map(|p| number(p.1)),
+        size: 40,
+        cardinality: 6,
+    })
+}
+
+/// A domain with a configuration.
+pub fn domain(alloc: Global, name: &str, text: &str, removed: bool) -> Result<Domain, Fail> {
+    let configuration = Name::from_str(alloc, text)?;
+    let domain = Name::from_str(alloc, name)?;
+    Ok(Domain {
+        configuration,
+        domain,
+        removed,
+    })
+}
+
+/// An add of a file in short, of so many bytes.
+pub fn add(alloc: Global, file: &str, size: i64) -> Result<Add, Fail> {
+    let path = Name::from_str(alloc, path_of(file))?;
+    let vector = vector_of(alloc, file)?;
     Ok(Add {
         change: true,
         modified: 5,
@@ -94,6 +136,7 @@ pub fn add(alloc: Global, path: &str, size: i64) -> Result<Add, Fail> {
         size,
         stats: None,
         tags: None,
+        vector,
     })
 }
 
@@ -106,9 +149,10 @@ fn add_with(alloc: Global, path: &str, column: &str) -> Result<Add, Fail> {
     Ok(add)
 }
 
-/// A remove of a file, at a time if one is given.
-pub fn remove(alloc: Global, path: &str, deleted: Option<i64>) -> Result<Remove, Fail> {
-    let path = Name::from_str(alloc, path)?;
+/// A remove of a file in short, at a time if one is given.
+pub fn remove(alloc: Global, file: &str, deleted: Option<i64>) -> Result<Remove, Fail> {
+    let path = Name::from_str(alloc, path_of(file))?;
+    let vector = vector_of(alloc, file)?;
     Ok(Remove {
         change: true,
         deleted,
@@ -116,6 +160,7 @@ pub fn remove(alloc: Global, path: &str, deleted: Option<i64>) -> Result<Remove,
         values: None,
         path,
         size: None,
+        vector,
     })
 }
 
@@ -124,7 +169,8 @@ fn number(word: &str) -> i64 {
     word.parse::<i64>().unwrap_or(0)
 }
 
-/// A file action: `add` and `same` of a file (without a change), `remove` and `keep` (without one).
+/// A file action: `add` and `same` of a file (without a change), `remove` and `keep` (without one). The file
+/// is a path, or a path, `#` and a vector.
 fn file_action(alloc: Global, kind: &str, path: &str, more: &str) -> Result<Action, Fail> {
     match kind {
         "add" => Ok(Action::Add(add_with(alloc, path, more)?)),
@@ -142,10 +188,16 @@ fn file_action(alloc: Global, kind: &str, path: &str, more: &str) -> Result<Acti
     }
 }
 
-/// A protocol with one more writer feature than a table needs, if one is named.
+/// A protocol with one more feature than a table needs, if one is named: among the writers' and, where it is
+/// `deletionVectors`, among the readers' too.
 fn table_protocol(alloc: Global, feature: &str) -> Result<Protocol, Fail> {
     let writers = format!(in alloc; "catalogManaged inCommitTimestamp {feature}")?;
-    protocol(alloc, (3, 7), "catalogManaged", writers.as_str())
+    let readers = if feature == "deletionVectors" {
+        "catalogManaged deletionVectors"
+    } else {
+        "catalogManaged"
+    };
+    protocol(alloc, (3, 7), readers, writers.as_str())
 }
 
 /// The action that a few words name.
@@ -166,6 +218,8 @@ fn action(alloc: Global, text: &str) -> Result<Action, Fail> {
             updated: None,
             number: number(second),
         })),
+        "domain" => Ok(Action::Domain(domain(alloc, first, second, false)?)),
+        "undomain" => Ok(Action::Domain(domain(alloc, first, second, true)?)),
         _ => file_action(alloc, kind, first, second),
     }
 }

@@ -14,12 +14,22 @@ pub fn spoilt_copy(alloc: Global, action: &Action) -> Result<Option<Action>, All
             meta.configuration = pairs(alloc, &["a"])?;
             Action::Meta(meta)
         }
+        Action::Domain(mut domain) => {
+            domain.domain = Name::from_str(alloc, "")?;
+            Action::Domain(domain)
+        }
         Action::Remove(mut remove) => {
-            remove.path = Name::from_str(alloc, "")?;
+            match &mut remove.vector {
+                None => remove.path = Name::from_str(alloc, "")?,
+                Some(vector) => vector.cardinality = -1,
+            }
             Action::Remove(remove)
         }
         Action::Add(mut add) => {
-            add.tags = Some(pairs(alloc, &["b", "a"])?);
+            match &mut add.vector {
+                None => add.tags = Some(pairs(alloc, &["b", "a"])?),
+                Some(vector) => vector.offset = Some(-1),
+            }
             Action::Add(add)
         }
     };

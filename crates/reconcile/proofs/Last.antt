@@ -2,7 +2,7 @@
 use Rattle.std.proofs.Common.{◌≡◌, Bool, true, false, cond, List, [], ◌∷◌, ◌++◌, refl, ap, sym, ◌∙◌}
 use Rattle.std.specs.Prelude.{Option, Some, None}
 use Rattle.action_types.specs.declared.actions.Action.{Action}
-use Rattle.reconcile.specs.Replay.{Log, or_else, last_said, in_log, last_commit}
+use Rattle.reconcile.specs.Replay.{Log, or_else, last_said, last_commit}
 
 pub or_else-none : {B : Type 0} (a : Option B) → or_else a None ≡ a
 or_else-none None = refl

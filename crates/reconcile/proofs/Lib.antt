@@ -1,6 +1,13 @@
+pub mod ByFile
+pub mod Files
+pub mod Ids
+pub mod InFileOrder
 pub mod InOrder
 pub mod Last
 pub mod Listing
 pub mod Named
+pub mod Plainly
 pub mod Searching
+pub mod Sorted
 pub mod Standing
+pub mod Walking

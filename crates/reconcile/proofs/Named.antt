@@ -1,5 +1,5 @@
 -- A tree with texts as keys against the finite map that it is seen as.
-use Rattle.std.proofs.Common.{◌≡◌, ℕ, List, [], ◌∷◌, ◌++◌, Bool, true, false, ◌&&◌, cond, map, refl, ap, sym, subst, ◌∙◌, string_bytes}
+use Rattle.std.proofs.Common.{◌≡◌, ℕ, List, [], ◌∷◌, ◌++◌, Bool, true, false, ◌&&◌, cond, map, length, arith, refl, ap, sym, subst, ◌∙◌, string_bytes}
 use Rattle.std.specs.Prelude.{Option, Some, None}
 use Rattle.std.specs.declared.string.String.{String}
 use Rattle.std.specs.declared.alloc.Global.{Global}
@@ -17,7 +17,7 @@ use Rattle.std.specs.Map.{keys_of, values_of}
 use Rattle.std.proofs.lemmas.Map.Keys.{sorted_head, sorted_tail}
 use lib.Dec.{T}
 use Rattle.std.proofs.lemmas.Map.Text.{btree_map_updates_text, text_cmp, is_eq-slice_cmp}
-use Rattle.reconcile.specs.Keys.{name_cmp}
+use Rattle.action_types.specs.Files.{name_cmp}
 use Rattle.reconcile.specs.Named.{named, by_bytes}
 use Rattle.reconcile.specs.Replay.{or_else}
 use Rattle.reconcile.proofs.Last.{or_else-none, or_else_assoc, newer}
@@ -38,7 +38,7 @@ second : (a b : Bool) → T (a && b) → T b
 second true b p = p
 second false b p = absurd p
 
-cond-or_else : {V : Type 0} (b : Bool) (v : V) (o p : Option V) → cond b (Some v) (or_else o p) ≡ or_else (cond b (Some v) o) p
+pub cond-or_else : {V : Type 0} (b : Bool) (v : V) (o p : Option V) → cond b (Some v) (or_else o p) ≡ or_else (cond b (Some v) o) p
 cond-or_else true v o p = refl
 cond-or_else false v o p = refl
 
@@ -83,12 +83,22 @@ module _ {V : Type 0} where
   values-named [] = refl
   values-named (e ∷ es) = ap (λ vs. e.1 ∷ vs) (values-named es)
 
-  pub values-by_bytes : (m : BTreeMap (String Global) V) → IsOrdered string_cmp m → fin.values (by_bytes m) ≡ values m
-  values-by_bytes m h =
+  pub entries-by_bytes : (m : BTreeMap (String Global) V) → IsOrdered string_cmp m → fin.entries (by_bytes m) ≡ named m.entries
+  entries-by_bytes m h =
       let sorted = rising m.entries h in
       let same = fin.same_map nat_list_cmp_total exact_names (by_bytes m) (fin.from_sorted (named m.entries))
       (λ q. fin.get-from_entries nat_list_cmp_total (named m.entries) q ∙ sym (fin.get-from_sorted name_cmp (named m.entries) q sorted)) in
-      ap fin.values same ∙ ap (map (λ e. e.1)) (fin.entries-from_sorted name_cmp (named m.entries) sorted) ∙ values-named m.entries
+      ap fin.entries same ∙ fin.entries-from_sorted name_cmp (named m.entries) sorted
+
+  pub values-by_bytes : (m : BTreeMap (String Global) V) → IsOrdered string_cmp m → fin.values (by_bytes m) ≡ values m
+  values-by_bytes m h = ap (map (λ e. e.1)) (entries-by_bytes m h) ∙ values-named m.entries
+
+  none_of : (es : List (String Global × V)) → length es ≡ 0 → fin.from_entries {R = name_cmp} (named es) ≡ fin.empty
+  none_of [] e = refl
+  none_of (x ∷ es) e = absurd (omega arith)
+
+  pub by_bytes-none : (m : BTreeMap (String Global) V) → length m.entries ≡ 0 → by_bytes m ≡ fin.empty
+  by_bytes-none m e = none_of m.entries e
 
   -- ---- a copy that is made from the last entry on
 

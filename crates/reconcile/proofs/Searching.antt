@@ -1,16 +1,15 @@
 -- A search from the end finds what was said last.
-use Rattle.std.proofs.Common.{◌≡◌, ℕ, ℤ, ◌-◌, Bool, true, false, cond, List, [], ◌∷◌, ◌++◌, map, length, refl, ap, sym, subst, ◌∙◌, arith, Bor}
+use Rattle.std.proofs.Common.{◌≡◌, ℕ, ◌-◌, Bool, true, false, cond, List, [], ◌∷◌, ◌++◌, length, refl, ap, sym, ◌∙◌, arith, Bor}
 use Rattle.std.specs.Prelude.{Option, Some, None, option_map, option_and_then, is_some, IfSome, IsSome, slice_get}
 use Rattle.std.specs.Option.{option_copied}
 use Rattle.std.specs.declared.alloc.Global.{Global}
 use Rattle.std.specs.declared.vec.Vec.{Vec}
 use Rattle.action_types.specs.declared.actions.Action.{Action}
 use Rattle.action_types.specs.declared.actions.Action.TheVariants as act
-use Rattle.action_types.specs.declared.actions.Add.{Add}
-use Rattle.action_types.specs.declared.actions.Remove.{Remove}
-use Rattle.reconcile.specs.Keys.{Key, key_of, key_of_remove, same_key, same_app}
-use Rattle.reconcile.specs.Replay.{Log, or_else, last_said, in_log, last_commit, Mention, added, removed, mention, as_added, as_removed, live_at, gone_at, txn_said, txn_at, protocol_said, protocol_of_log, meta_said, meta_of_log, time_said, time_of_log}
-use Rattle.reconcile.specs.Plain.{answers, add_of, remove_of, number_of, kept, kept_tombstone, log_of}
+use Rattle.action_types.specs.Files.{file_of_key}
+use Rattle.reconcile.specs.Keys.{Key, key_of, key_of_remove, same_key, same_name, same_app}
+use Rattle.reconcile.specs.Replay.{Log, or_else, last_said, in_log, last_commit, added, removed, mention, as_added, as_removed, live_at, gone_at, txn_said, txn_at, domain_said, present, domain_at, protocol_said, protocol_of_log, meta_said, meta_of_log, time_said, time_of_log}
+use Rattle.reconcile.specs.Plain.{answers, add_of, remove_of, number_of, domain_of, kept, kept_tombstone, log_of}
 use Rattle.reconcile.specs.declared.plain.Asked.{Asked}
 use Rattle.reconcile.specs.declared.plain.Asked.TheVariants as asked
 use Rattle.reconcile.proofs.Last.{last_said-append}
@@ -118,27 +117,39 @@ module _ {B : Type 0} (says : Action → Option B) (test : Action → Bool) (agr
 
 -- ---- each look-up
 
-file_agrees : (path : _) (a : Action) → is_some (mention path.now a) ≡ answers (asked.File path) a
-file_agrees path (act.Info info) = refl
-file_agrees path (act.Protocol protocol) = refl
-file_agrees path (act.Meta meta) = refl
-file_agrees path (act.Txn txn) = refl
-file_agrees path (act.Remove remove) = is_some-cond (same_key path.now (key_of_remove remove)) (removed (kept_tombstone remove))
-file_agrees path (act.Add add) = is_some-cond (same_key path.now (key_of add)) (added (kept add))
+file_agrees : (key : _) (a : Action) → is_some (mention (file_of_key key) a) ≡ answers (asked.File key) a
+file_agrees key (act.Info info) = refl
+file_agrees key (act.Protocol protocol) = refl
+file_agrees key (act.Meta meta) = refl
+file_agrees key (act.Txn txn) = refl
+file_agrees key (act.Domain domain) = refl
+file_agrees key (act.Remove remove) = is_some-cond (same_key (file_of_key key) (key_of_remove remove)) (removed (kept_tombstone remove))
+file_agrees key (act.Add add) = is_some-cond (same_key (file_of_key key) (key_of add)) (added (kept add))
 
 app_agrees : (app : _) (a : Action) → is_some (txn_said app.now a) ≡ answers (asked.App app) a
 app_agrees app (act.Info info) = refl
 app_agrees app (act.Protocol protocol) = refl
 app_agrees app (act.Meta meta) = refl
 app_agrees app (act.Txn txn) = is_some-cond (same_app app.now txn.app) txn
+app_agrees app (act.Domain domain) = refl
 app_agrees app (act.Remove remove) = refl
 app_agrees app (act.Add add) = refl
+
+domain_agrees : (name : _) (a : Action) → is_some (domain_said name.now a) ≡ answers (asked.Domain name) a
+domain_agrees name (act.Info info) = refl
+domain_agrees name (act.Protocol protocol) = refl
+domain_agrees name (act.Meta meta) = refl
+domain_agrees name (act.Txn txn) = refl
+domain_agrees name (act.Domain domain) = is_some-cond (same_name name.now domain.domain) domain
+domain_agrees name (act.Remove remove) = refl
+domain_agrees name (act.Add add) = refl
 
 protocol_agrees : (a : Action) → is_some (protocol_said a) ≡ answers asked.Protocol a
 protocol_agrees (act.Info info) = refl
 protocol_agrees (act.Protocol protocol) = refl
 protocol_agrees (act.Meta meta) = refl
 protocol_agrees (act.Txn txn) = refl
+protocol_agrees (act.Domain domain) = refl
 protocol_agrees (act.Remove remove) = refl
 protocol_agrees (act.Add add) = refl
 
@@ -147,6 +158,7 @@ meta_agrees (act.Info info) = refl
 meta_agrees (act.Protocol protocol) = refl
 meta_agrees (act.Meta meta) = refl
 meta_agrees (act.Txn txn) = refl
+meta_agrees (act.Domain domain) = refl
 meta_agrees (act.Remove remove) = refl
 meta_agrees (act.Add add) = refl
 
@@ -155,6 +167,7 @@ time_agrees (act.Info info) = refl
 time_agrees (act.Protocol protocol) = refl
 time_agrees (act.Meta meta) = refl
 time_agrees (act.Txn txn) = refl
+time_agrees (act.Domain domain) = refl
 time_agrees (act.Remove remove) = refl
 time_agrees (act.Add add) = refl
 
@@ -173,6 +186,7 @@ live_found key (Some (act.Info info)) h = refl
 live_found key (Some (act.Protocol protocol)) h = refl
 live_found key (Some (act.Meta meta)) h = refl
 live_found key (Some (act.Txn txn)) h = refl
+live_found key (Some (act.Domain domain)) h = refl
 live_found key (Some (act.Remove remove)) h = either_none as_added (same_key key (key_of_remove remove)) (removed (kept_tombstone remove)) refl
 live_found key (Some (act.Add add)) h = ap (option_and_then as_added) (taken (same_key key (key_of add)) (added (kept add)) h)
 
@@ -183,6 +197,7 @@ gone_found key (Some (act.Info info)) h = refl
 gone_found key (Some (act.Protocol protocol)) h = refl
 gone_found key (Some (act.Meta meta)) h = refl
 gone_found key (Some (act.Txn txn)) h = refl
+gone_found key (Some (act.Domain domain)) h = refl
 gone_found key (Some (act.Remove remove)) h = ap (option_and_then as_removed) (taken (same_key key (key_of_remove remove)) (removed (kept_tombstone remove)) h)
 gone_found key (Some (act.Add add)) h = either_none as_removed (same_key key (key_of add)) (added (kept add)) refl
 
@@ -193,24 +208,36 @@ number_found app (Some (act.Info info)) h = refl
 number_found app (Some (act.Protocol protocol)) h = refl
 number_found app (Some (act.Meta meta)) h = refl
 number_found app (Some (act.Txn txn)) h = ap (option_map (λ t. t.number)) (taken (same_app app txn.app) txn h)
+number_found app (Some (act.Domain domain)) h = refl
 number_found app (Some (act.Remove remove)) h = refl
 number_found app (Some (act.Add add)) h = refl
 
-pub live_searched : (path : _) (log : Log) (found : Option Action) → found ≡ in_log (λ a. cond (answers (asked.File path) a) (Some a) None) log
-    → option_map kept (option_and_then add_of found) ≡ live_at path.now log
-unfolding live_at
-live_searched path log found e =
-    ap (λ f. option_map kept (option_and_then add_of f)) e
-    ∙ live_found path.now (in_log (λ a. cond (answers (asked.File path) a) (Some a) None) log) (found_says (mention path.now) (answers (asked.File path)) (file_agrees path) log)
-    ∙ ap (option_and_then as_added) (sym (in_log-passing (mention path.now) (answers (asked.File path)) (file_agrees path) log))
+domain_found : (name : List ℕ) (found : Option Action) → IfSome found (λ a. IsSome (domain_said name a))
+    → option_and_then domain_of found ≡ option_and_then (domain_said name) found
+domain_found name None h = refl
+domain_found name (Some (act.Info info)) h = refl
+domain_found name (Some (act.Protocol protocol)) h = refl
+domain_found name (Some (act.Meta meta)) h = refl
+domain_found name (Some (act.Txn txn)) h = refl
+domain_found name (Some (act.Domain domain)) h = taken (same_name name domain.domain) domain h
+domain_found name (Some (act.Remove remove)) h = refl
+domain_found name (Some (act.Add add)) h = refl
 
-pub gone_searched : (path : _) (log : Log) (found : Option Action) → found ≡ in_log (λ a. cond (answers (asked.File path) a) (Some a) None) log
-    → option_map kept_tombstone (option_and_then remove_of found) ≡ gone_at path.now log
+pub live_searched : (key : _) (log : Log) (found : Option Action) → found ≡ in_log (λ a. cond (answers (asked.File key) a) (Some a) None) log
+    → option_map kept (option_and_then add_of found) ≡ live_at (file_of_key key) log
+unfolding live_at
+live_searched key log found e =
+    ap (λ f. option_map kept (option_and_then add_of f)) e
+    ∙ live_found (file_of_key key) (in_log (λ a. cond (answers (asked.File key) a) (Some a) None) log) (found_says (mention (file_of_key key)) (answers (asked.File key)) (file_agrees key) log)
+    ∙ ap (option_and_then as_added) (sym (in_log-passing (mention (file_of_key key)) (answers (asked.File key)) (file_agrees key) log))
+
+pub gone_searched : (key : _) (log : Log) (found : Option Action) → found ≡ in_log (λ a. cond (answers (asked.File key) a) (Some a) None) log
+    → option_map kept_tombstone (option_and_then remove_of found) ≡ gone_at (file_of_key key) log
 unfolding gone_at
-gone_searched path log found e =
+gone_searched key log found e =
     ap (λ f. option_map kept_tombstone (option_and_then remove_of f)) e
-    ∙ gone_found path.now (in_log (λ a. cond (answers (asked.File path) a) (Some a) None) log) (found_says (mention path.now) (answers (asked.File path)) (file_agrees path) log)
-    ∙ ap (option_and_then as_removed) (sym (in_log-passing (mention path.now) (answers (asked.File path)) (file_agrees path) log))
+    ∙ gone_found (file_of_key key) (in_log (λ a. cond (answers (asked.File key) a) (Some a) None) log) (found_says (mention (file_of_key key)) (answers (asked.File key)) (file_agrees key) log)
+    ∙ ap (option_and_then as_removed) (sym (in_log-passing (mention (file_of_key key)) (answers (asked.File key)) (file_agrees key) log))
 
 pub number_searched : (app : _) (log : Log) (found : Option Action) → found ≡ in_log (λ a. cond (answers (asked.App app) a) (Some a) None) log
     → option_and_then number_of found ≡ option_map (λ t. t.number) (txn_at app.now log)
@@ -219,6 +246,15 @@ number_searched app log found e =
     ap (option_and_then number_of) e
     ∙ number_found app.now (in_log (λ a. cond (answers (asked.App app) a) (Some a) None) log) (found_says (txn_said app.now) (answers (asked.App app)) (app_agrees app) log)
     ∙ ap (option_map (λ t. t.number)) (sym (in_log-passing (txn_said app.now) (answers (asked.App app)) (app_agrees app) log))
+
+pub domain_searched : (name : _) (log : Log) (found : Option Action) → found ≡ in_log (λ a. cond (answers (asked.Domain name) a) (Some a) None) log
+    → option_and_then present (option_and_then domain_of found) ≡ domain_at name.now log
+unfolding domain_at
+domain_searched name log found e =
+    ap (λ f. option_and_then present (option_and_then domain_of f)) e
+    ∙ ap (option_and_then present)
+    (domain_found name.now (in_log (λ a. cond (answers (asked.Domain name) a) (Some a) None) log) (found_says (domain_said name.now) (answers (asked.Domain name)) (domain_agrees name) log)
+    ∙ sym (in_log-passing (domain_said name.now) (answers (asked.Domain name)) (domain_agrees name) log))
 
 pub protocol_searched : (log : Log) (found : Option Action) → found ≡ in_log (λ a. cond (answers asked.Protocol a) (Some a) None) log
     → option_and_then protocol_said found ≡ protocol_of_log log

@@ -1,7 +1,11 @@
+pub mod ByFile
 pub mod Keys
+pub mod Left
 pub mod Named
+pub mod Paths
 pub mod Plain
 pub mod Replay
 pub mod Standing
 pub mod Steps
+pub mod Walking
 pub mod Walks

@@ -4,7 +4,7 @@ use Rattle.std.specs.FinMap as fin
 use Rattle.std.specs.declared.string.String.{String}
 use Rattle.std.specs.declared.alloc.Global.{Global}
 use Rattle.std.specs.BTreeMap.{BTreeMap}
-use Rattle.reconcile.specs.Keys.{name_cmp}
+use Rattle.action_types.specs.Files.{name_cmp}
 
 abbrev pub named : {V : Type 0} → List (String Global × V) → List (List ℕ × V)
 named es = map (λ e. (string_bytes e.0, e.1)) es

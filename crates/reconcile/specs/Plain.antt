@@ -6,7 +6,9 @@ use Rattle.action_types.specs.declared.actions.Action.{Action}
 use Rattle.action_types.specs.declared.actions.Action.TheVariants as action
 use Rattle.action_types.specs.declared.actions.Add.{Add}
 use Rattle.action_types.specs.declared.actions.Remove.{Remove}
-use Rattle.reconcile.specs.Keys.{key_of, key_of_remove, same_key, same_app}
+use Rattle.action_types.specs.declared.actions.Domain.{Domain}
+use Rattle.action_types.specs.Files.{file_of_key}
+use Rattle.reconcile.specs.Keys.{key_of, key_of_remove, same_key, same_name, same_app}
 use Rattle.reconcile.specs.Replay.{Log}
 use Rattle.reconcile.specs.declared.plain.Asked.{Asked}
 use Rattle.reconcile.specs.declared.plain.Asked.TheVariants as asked
@@ -16,9 +18,10 @@ log_of commits = map (λ c. c.items) commits
 
 -- whether an action says something of what is asked
 abbrev pub answers : Asked → Action → Bool
-answers (asked.File path) (action.Add add) = same_key path.now (key_of add)
-answers (asked.File path) (action.Remove remove) = same_key path.now (key_of_remove remove)
+answers (asked.File key) (action.Add add) = same_key (file_of_key key) (key_of add)
+answers (asked.File key) (action.Remove remove) = same_key (file_of_key key) (key_of_remove remove)
 answers (asked.App app) (action.Txn txn) = same_app app.now txn.app
+answers (asked.Domain name) (action.Domain domain) = same_name name.now domain.domain
 answers asked.Protocol (action.Protocol protocol) = true
 answers asked.Meta (action.Meta meta) = true
 answers asked.Time (action.Info info) = true
@@ -42,3 +45,7 @@ remove_of _ = None
 abbrev pub number_of : Action → Option ℤ
 number_of (action.Txn txn) = Some txn.number
 number_of _ = None
+
+abbrev pub domain_of : Action → Option Domain
+domain_of (action.Domain domain) = Some domain
+domain_of _ = None

@@ -1,15 +1,16 @@
--- What a list of commits says of a table (Delta protocol, "Action Reconciliation"): of a file, of an application, of the protocol and of the
--- metadata, the last commit that mentions it decides, and the time is the last commit's. A commit is the list of its actions, and a log the
--- list of its commits, the first one first.
+-- What a list of commits says of a table (Delta protocol, "Action Reconciliation"): of a file, of an application, of a domain, of the
+-- protocol and of the metadata, the last commit that mentions it decides, and the time is the last commit's. A commit is the list of its
+-- actions, and a log the list of its commits, the first one first.
 use Rattle.std.specs.Prelude.{ℕ, ℤ, List, [], ◌∷◌, false, Option, Some, None, option_and_then, if◌then◌else◌}
 use Rattle.action_types.specs.declared.actions.Action.{Action}
 use Rattle.action_types.specs.declared.actions.Action.TheVariants as action
 use Rattle.action_types.specs.declared.actions.Add.{Add}
 use Rattle.action_types.specs.declared.actions.Remove.{Remove}
 use Rattle.action_types.specs.declared.actions.Txn.{Txn}
+use Rattle.action_types.specs.declared.actions.Domain.{Domain}
 use Rattle.action_types.specs.declared.actions.Protocol.{Protocol}
 use Rattle.action_types.specs.declared.actions.Meta.{Meta}
-use Rattle.reconcile.specs.Keys.{Key, key_of, key_of_remove, same_key, same_app}
+use Rattle.reconcile.specs.Keys.{Key, key_of, key_of_remove, same_key, same_name, same_app}
 
 abbrev pub Log : Type 0
 Log = List (List Action)
@@ -56,7 +57,7 @@ live_at key log = option_and_then as_added (in_log (mention key) log)
 unfoldable pub gone_at : Key → Log → Option Remove
 gone_at key log = option_and_then as_removed (in_log (mention key) log)
 
--- ---- applications, protocol and metadata
+-- ---- applications, domains, protocol and metadata
 
 abbrev pub txn_said : List ℕ → Action → Option Txn
 txn_said app (action.Txn txn) = if same_app app txn.app then Some txn else None
@@ -65,6 +66,18 @@ txn_said app _ = None
 -- the latest txn of an application
 unfoldable pub txn_at : List ℕ → Log → Option Txn
 txn_at app log = in_log (txn_said app) log
+
+abbrev pub domain_said : List ℕ → Action → Option Domain
+domain_said name (action.Domain domain) = if same_name name domain.domain then Some domain else None
+domain_said name _ = None
+
+-- a domain that is not removed
+abbrev pub present : Domain → Option Domain
+present domain = if domain.removed then None else Some domain
+
+-- the domain of a name as the last commit that mentions it has it, and none where that commit removes it
+unfoldable pub domain_at : List ℕ → Log → Option Domain
+domain_at name log = option_and_then present (in_log (domain_said name) log)
 
 abbrev pub protocol_said : Action → Option Protocol
 protocol_said (action.Protocol protocol) = Some protocol

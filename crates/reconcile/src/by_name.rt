@@ -1,11 +1,13 @@
-ghost use Rattle.std.specs.Prelude.{◌≡◌, OnOk, OnErr, IfOk};
+ghost use Rattle.std.specs.Prelude.{◌≡◌, ◌↔◌, IsTrue, OnOk, OnErr, IfOk};
 ghost use Rattle.std.specs.Option.{option_copied};
 ghost use Rattle.std.specs.FinMap as fin;
+ghost use Rattle.action_types.specs.Files.{unique_id};
+ghost use Rattle.reconcile.specs.Named.{named};
 
-use action_types::Name;
+use action_types::{Name, Vector};
 use std::alloc::{AllocError, Global};
 use std::collections::BTreeMap;
-use std::collections::btree_map::Values;
+use std::collections::btree_map::{Iter, Values};
 use std::marker::Model;
 
 /// A value of which an equal one can be made.
@@ -70,6 +72,28 @@ impl<V: Drop> ByName<V> {
         let _ = self.entries.remove(name);
     }
 
+    /// Takes the value of a name out, if there is one.
+    pub(crate) fn take(&mut self, name: &str) -> Option<V>
+        ensures value { result ≡ fin.get self.old name.now }
+        ensures rest { self.new ≡ fin.remove self.old name.now }
+    {
+        self.entries.remove(name)
+    }
+
+    /// Whether there is no value.
+    pub(crate) fn is_empty(&self) -> bool
+        ensures { IsTrue result → self.now ≡ fin.empty }
+    {
+        self.entries.is_empty()
+    }
+
+    /// The names with their values in byte order of the names.
+    pub(crate) fn entries(&self) -> Iter<'_, String, V>
+        ensures { named result ≡ fin.entries self.now }
+    {
+        self.entries.iter()
+    }
+
     /// The values in byte order of their names.
     pub(crate) fn values(&self) -> Values<'_, String, V>
         ensures { result ≡ fin.values self.now }
@@ -89,5 +113,11 @@ impl<V: EqualCopy + Drop> ByName<V> {
             copy.insert(name, value.equal_copy()?)?;
         }
         Ok(copy)
+    }
+}
+
+impl<V: EqualCopy + Drop> EqualCopy for ByName<V> {
+    fn equal_copy(&self) -> Result<ByName<V>, AllocError> {
+        self.copy()
     }
 }

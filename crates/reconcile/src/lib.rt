@@ -1,12 +1,16 @@
 // The state of a Delta table after a list of commits, by action reconciliation of the Delta protocol.
 #![tactic(auto)]
 
+mod ahead;
+mod by_file;
 mod by_name;
 mod laws;
+mod merge;
 pub mod plain;
 mod state;
 mod walks;
 
-pub use laws::{a_log_has_one_state, walks_list_the_replay};
+pub use action_types::Key;
+pub use laws::{a_log_has_one_state, paths_are_files, walks_list_the_replay};
 pub use state::State;
-pub use walks::{FileWalk, GoneWalk, TxnWalk};
+pub use walks::{DomainWalk, FileWalk, GoneWalk, TxnWalk};

@@ -2,24 +2,26 @@
 // tests compare the state with it.
 ghost use Rattle.std.specs.Prelude.{◌≡◌, Some, None, cond, option_map, option_and_then};
 ghost use Rattle.std.specs.Option.{option_copied};
-ghost use Rattle.reconcile.specs.Keys.{same_key};
-ghost use Rattle.reconcile.specs.Plain.{answers, add_of, remove_of, number_of, kept, kept_tombstone, log_of};
-ghost use Rattle.reconcile.specs.Replay.{in_log, last_said, live_at, gone_at, txn_at, protocol_said, protocol_of_log, meta_said, meta_of_log, time_said, time_of_log};
+ghost use Rattle.action_types.specs.Files.{file_of_key};
+ghost use Rattle.reconcile.specs.Keys.{same_name};
+ghost use Rattle.reconcile.specs.Plain.{answers, add_of, remove_of, number_of, domain_of, kept, kept_tombstone, log_of};
+ghost use Rattle.reconcile.specs.Replay.{in_log, last_said, live_at, gone_at, txn_at, domain_at, present, protocol_said, protocol_of_log, meta_said, meta_of_log, time_said, time_of_log};
 
-use action_types::{Action, Add, Meta, Name, Protocol, Remove};
+use action_types::{Action, Add, Domain, Key, Meta, Name, Protocol, Remove};
 
 /// What a look-up asks for.
 #[derive(Clone, Copy)]
 enum Asked<'a> {
-    File(&'a str),
+    File(Key<'a>),
     App(&'a str),
+    Domain(&'a str),
     Protocol,
     Meta,
     Time,
 }
 
 fn is_named(name: &Name, asked: &str) -> bool
-    ensures { result ≡ same_key asked.now name.now }
+    ensures { result ≡ same_name asked.now name.now }
 {
     asked == name.as_str()
 }
@@ -28,13 +30,17 @@ fn is_answer(asked: Asked<'_>, action: &Action) -> bool
     ensures { result ≡ answers asked.entry action.now }
 {
     match asked {
-        Asked::File(path) => match action {
-            Action::Add(add) => is_named(&add.path, path),
-            Action::Remove(remove) => is_named(&remove.path, path),
+        Asked::File(key) => match action {
+            Action::Add(add) => key.is(add.key()),
+            Action::Remove(remove) => key.is(remove.key()),
             _ => false,
         },
         Asked::App(app) => match action {
             Action::Txn(txn) => is_named(&txn.app, app),
+            _ => false,
+        },
+        Asked::Domain(name) => match action {
+            Action::Domain(domain) => is_named(&domain.domain, name),
             _ => false,
         },
         Asked::Protocol => matches!(action, Action::Protocol(_)),
@@ -95,6 +101,16 @@ fn as_number(action: Option<&Action>) -> Option<i64>
     }
 }
 
+/// The domain of an action, unless it is removed.
+fn as_domain(action: Option<&Action>) -> Option<&Domain>
+    ensures { option_copied result ≡ option_and_then present (option_and_then domain_of (option_copied action.entry)) }
+{
+    match action {
+        Some(Action::Domain(domain)) if !domain.removed => Some(domain),
+        _ => None,
+    }
+}
+
 fn as_protocol(action: Option<&Action>) -> Option<&Protocol>
     ensures { option_copied result ≡ option_and_then protocol_said (option_copied action.entry) }
 {
@@ -122,18 +138,27 @@ fn as_time(action: Option<&Action>) -> Option<i64>
     }
 }
 
-/// The live file of a path, its `change` as it was written.
-pub fn live<'a>(commits: &'a [Vec<Action>], path: &str) -> Option<&'a Add>
-    ensures { option_map kept (option_copied result) ≡ live_at path.now (log_of commits.now) }
+/// The live file that a key names, its `change` as it was written.
+pub fn live<'a>(commits: &'a [Vec<Action>], key: Key<'_>) -> Option<&'a Add>
+    ensures { option_map kept (option_copied result)
+        ≡ live_at (file_of_key key.entry) (log_of commits.now) }
 {
-    as_add(last(commits, Asked::File(path)))
+    as_add(last(commits, Asked::File(key)))
 }
 
-/// The tombstone of a path, its `change` as it was written.
-pub fn gone<'a>(commits: &'a [Vec<Action>], path: &str) -> Option<&'a Remove>
-    ensures { option_map kept_tombstone (option_copied result) ≡ gone_at path.now (log_of commits.now) }
+/// The tombstone of the file that a key names, its `change` as it was written.
+pub fn gone<'a>(commits: &'a [Vec<Action>], key: Key<'_>) -> Option<&'a Remove>
+    ensures { option_map kept_tombstone (option_copied result)
+        ≡ gone_at (file_of_key key.entry) (log_of commits.now) }
 {
-    as_remove(last(commits, Asked::File(path)))
+    as_remove(last(commits, Asked::File(key)))
+}
+
+/// The domain of a name, if there is one that is not removed.
+pub fn domain<'a>(commits: &'a [Vec<Action>], name: &str) -> Option<&'a Domain>
+    ensures { option_copied result ≡ domain_at name.now (log_of commits.now) }
+{
+    as_domain(last(commits, Asked::Domain(name)))
 }
 
 /// The number that an application wrote last.

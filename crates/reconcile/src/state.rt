@@ -1,18 +1,21 @@
 ghost use Rattle.std.specs.Prelude.{◌≡◌, List, [], ◌∷◌, ◌++◌, None, Some, IfOk, option_map, fold};
 ghost use Rattle.std.specs.Option.{option_copied};
 
+use crate::by_file::ByFile;
 use crate::by_name::{ByName, EqualCopy};
-use crate::walks::{FileWalk, GoneWalk, TxnWalk};
-use action_types::{Action, Add, Meta, Protocol, Remove, Txn};
+use crate::walks::{DomainWalk, FileWalk, GoneWalk, TxnWalk};
+use action_types::{Action, Add, Domain, Key, Meta, Protocol, Remove, Txn};
 use std::alloc::{AllocError, Global};
 
 /// What a list of commits says of a table (Delta protocol, "Action Reconciliation"): the live files, the
-/// tombstones, the latest txn of each application, the protocol, the metadata and the time.
+/// tombstones, the latest txn of each application, the domains, the protocol, the metadata and the time. A
+/// file is a path and the unique id of its deletion vector, or a path without one.
 #[derive(Drop)]
 pub struct State {
-    live: ByName<Add>,
-    gone: ByName<Remove>,
+    live: ByFile<Add>,
+    gone: ByFile<Remove>,
     txns: ByName<Txn>,
+    domains: ByName<Domain>,
     protocol: Option<Protocol>,
     meta: Option<Meta>,
     time: Option<i64>,
@@ -20,19 +23,21 @@ pub struct State {
 
 impl State {
     ghost use Rattle.action_types.specs.declared.actions.Action.TheVariants as act;
+    ghost use Rattle.action_types.specs.Files.{file_of_key};
     ghost use Rattle.reconcile.specs.Replay.{Log};
-    ghost use Rattle.reconcile.specs.Standing.{StandsFor, HasTableOf, live_in, gone_in, txn_in, protocol_in, meta_in, time_in, files_in, tombstones_in, txns_in};
+    ghost use Rattle.reconcile.specs.Standing.{StandsFor, HasTableOf, live_in, gone_in, txn_in, domain_in, protocol_in, meta_in, time_in, files_in, tombstones_in, txns_in, domains_in};
     ghost use Rattle.reconcile.specs.Steps.{after, timed};
-    ghost use Rattle.reconcile.specs.Walks.{files_of, tombstones_of, txns_of};
+    ghost use Rattle.reconcile.specs.Walks.{files_of, tombstones_of, txns_of, domains_of};
 
     /// The state of no commits.
     pub fn empty(alloc: Global) -> State
         ensures { StandsFor result [] }
     {
         State {
-            live: ByName::new(alloc),
-            gone: ByName::new(alloc),
+            live: ByFile::new(alloc),
+            gone: ByFile::new(alloc),
             txns: ByName::new(alloc),
+            domains: ByName::new(alloc),
             protocol: None,
             meta: None,
             time: None,
@@ -74,6 +79,7 @@ impl State {
             Action::Protocol(protocol) => self.with_protocol(protocol),
             Action::Meta(meta) => self.with_meta(meta),
             Action::Txn(txn) => self.with_txn(txn),
+            Action::Domain(domain) => self.with_domain(domain),
             Action::Remove(remove) => self.with_tombstone(remove),
             Action::Add(add) => self.with_file(add),
         }
@@ -112,14 +118,26 @@ impl State {
         Ok(state)
     }
 
+    fn with_domain(self, domain: &Domain) -> Result<State, AllocError>
+        ensures { IfOk result (λ s. s ≡ after self (act.Domain domain.now)) }
+    {
+        let mut state = self;
+        if domain.removed {
+            state.domains.remove(domain.domain.as_str());
+            return Ok(state);
+        }
+        state.domains.insert(domain.domain.copy()?, domain.copy()?)?;
+        Ok(state)
+    }
+
     fn with_tombstone(self, remove: &Remove) -> Result<State, AllocError>
         ensures { IfOk result (λ s. s ≡ after self (act.Remove remove.now)) }
     {
         let mut state = self;
         let mut kept = remove.copy()?;
         kept.change = false;
-        state.live.remove(remove.path.as_str());
-        state.gone.insert(remove.path.copy()?, kept)?;
+        state.live.remove(remove.key())?;
+        state.gone.insert(remove.key(), kept)?;
         Ok(state)
     }
 
@@ -129,23 +147,25 @@ impl State {
         let mut state = self;
         let mut kept = add.copy()?;
         kept.change = false;
-        state.gone.remove(add.path.as_str());
-        state.live.insert(add.path.copy()?, kept)?;
+        state.gone.remove(add.key())?;
+        state.live.insert(add.key(), kept)?;
         Ok(state)
     }
 
-    /// The live file of a path, its `change` false.
-    pub fn live(&self, path: &str) -> Option<&Add>
-        ensures { option_copied result ≡ live_in self.now path.now }
+    /// The live file that a key names, its `change` false. It takes no memory; under one path the files with
+    /// vectors are looked at one by one.
+    pub fn live(&self, key: Key<'_>) -> Option<&Add>
+        ensures { option_copied result ≡ live_in self.now (file_of_key key.entry) }
     {
-        self.live.get(path)
+        self.live.get(key)
     }
 
-    /// The tombstone of a path, its `change` false.
-    pub fn gone(&self, path: &str) -> Option<&Remove>
-        ensures { option_copied result ≡ gone_in self.now path.now }
+    /// The tombstone of the file that a key names, its `change` false. It takes no memory; under one path the
+    /// files with vectors are looked at one by one.
+    pub fn gone(&self, key: Key<'_>) -> Option<&Remove>
+        ensures { option_copied result ≡ gone_in self.now (file_of_key key.entry) }
     {
-        self.gone.get(path)
+        self.gone.get(key)
     }
 
     /// The number that an application wrote last.
@@ -156,6 +176,13 @@ impl State {
             Some(txn) => Some(txn.number),
             None => None,
         }
+    }
+
+    /// The domain of a name, if there is one that is not removed (Delta protocol, "Domain Metadata").
+    pub fn domain(&self, name: &str) -> Option<&Domain>
+        ensures { option_copied result ≡ domain_in self.now name.now }
+    {
+        self.domains.get(name)
     }
 
     /// The protocol of the table.
@@ -179,23 +206,24 @@ impl State {
         self.time
     }
 
-    /// The live files in byte order of their keys, each with its `change` false.
+    /// The live files by path, and under one path the one without a deletion vector first, then by the bytes
+    /// of the vectors' unique ids; each with its `change` false.
     pub fn files(&self) -> FileWalk<'_>
         ensures value { result ≡ files_in self.now }
         ensures of_log { (log : Log) → HasTableOf self.now log → result ≡ files_of log }
     {
         FileWalk {
-            rest: self.live.values(),
+            rest: self.live.files(),
         }
     }
 
-    /// The tombstones in byte order of their keys, each with its `change` false.
+    /// The tombstones in the same order of files, each with its `change` false.
     pub fn tombstones(&self) -> GoneWalk<'_>
         ensures value { result ≡ tombstones_in self.now }
         ensures of_log { (log : Log) → HasTableOf self.now log → result ≡ tombstones_of log }
     {
         GoneWalk {
-            rest: self.gone.values(),
+            rest: self.gone.files(),
         }
     }
 
@@ -209,6 +237,16 @@ impl State {
         }
     }
 
+    /// The domains that are not removed, in byte order of their names.
+    pub fn domains(&self) -> DomainWalk<'_>
+        ensures value { result ≡ domains_in self.now }
+        ensures of_log { (log : Log) → HasTableOf self.now log → result ≡ domains_of log }
+    {
+        DomainWalk {
+            rest: self.domains.values(),
+        }
+    }
+
     /// An equal state; refused for want of memory alone.
     pub fn copy(&self) -> Result<State, AllocError>
         ensures { IfOk result (λ s. s ≡ self.now) }
@@ -216,12 +254,14 @@ impl State {
         let live = self.live.copy()?;
         let gone = self.gone.copy()?;
         let txns = self.txns.copy()?;
+        let domains = self.domains.copy()?;
         let protocol = copy_protocol(&self.protocol)?;
         let meta = copy_meta(&self.meta)?;
         Ok(State {
             live,
             gone,
             txns,
+            domains,
             protocol,
             meta,
             time: self.time,
@@ -257,6 +297,12 @@ impl EqualCopy for Add {
 
 impl EqualCopy for Remove {
     fn equal_copy(&self) -> Result<Remove, AllocError> {
+        self.copy()
+    }
+}
+
+impl EqualCopy for Domain {
+    fn equal_copy(&self) -> Result<Domain, AllocError> {
         self.copy()
     }
 }

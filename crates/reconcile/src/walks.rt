@@ -1,19 +1,26 @@
 ghost use Rattle.std.specs.Iterator.{YieldsFirstRef, item_count};
 
-use action_types::{Add, Remove, Txn};
+use crate::merge::FilesLeft;
+use action_types::{Add, Domain, Remove, Txn};
 use std::collections::btree_map::Values;
 use std::marker::Model;
 
-/// The live files of a state in byte order of their keys. A contract sees the list of those that are left.
+/// The live files of a state in their order. A contract sees the list of those that are left.
 #[derive(Drop)]
 pub struct FileWalk<'a> {
-    pub(crate) rest: Values<'a, String, Add>,
+    pub(crate) rest: FilesLeft<'a, Add>,
 }
 
-/// The tombstones of a state in byte order of their keys. A contract sees the list of those that are left.
+/// The tombstones of a state in the order of their files. A contract sees the list of those that are left.
 #[derive(Drop)]
 pub struct GoneWalk<'a> {
-    pub(crate) rest: Values<'a, String, Remove>,
+    pub(crate) rest: FilesLeft<'a, Remove>,
+}
+
+/// The domains of a state in byte order of their names. A contract sees the list of those that are left.
+#[derive(Drop)]
+pub struct DomainWalk<'a> {
+    pub(crate) rest: Values<'a, String, Domain>,
 }
 
 /// The latest txns of a state in byte order of their applications. A contract sees the list of those that
@@ -26,17 +33,28 @@ pub struct TxnWalk<'a> {
 impl<'a> Model for FileWalk<'a> {
     ghost use Rattle.std.specs.Prelude.{List};
     ghost use Rattle.action_types.specs.declared.actions.Add.{Add};
+    ghost use Rattle.reconcile.specs.Walking.{left};
 
     ghost Value = { List Add };
 
-    ghost view = { λ a. a.rest };
+    ghost view = { λ a. left a.rest };
 }
 
 impl<'a> Model for GoneWalk<'a> {
     ghost use Rattle.std.specs.Prelude.{List};
     ghost use Rattle.action_types.specs.declared.actions.Remove.{Remove};
+    ghost use Rattle.reconcile.specs.Walking.{left};
 
     ghost Value = { List Remove };
+
+    ghost view = { λ a. left a.rest };
+}
+
+impl<'a> Model for DomainWalk<'a> {
+    ghost use Rattle.std.specs.Prelude.{List};
+    ghost use Rattle.action_types.specs.declared.actions.Domain.{Domain};
+
+    ghost Value = { List Domain };
 
     ghost view = { λ a. a.rest };
 }
@@ -70,6 +88,18 @@ impl<'a> Iterator for GoneWalk<'a> {
     ghost remaining = { item_count (λ s. s) };
 
     fn next(&mut self) -> Option<&'a Remove> {
+        self.rest.next()
+    }
+}
+
+impl<'a> Iterator for DomainWalk<'a> {
+    type Item = &'a Domain;
+
+    ghost next_gives = { YieldsFirstRef (λ s. s) };
+
+    ghost remaining = { item_count (λ s. s) };
+
+    fn next(&mut self) -> Option<&'a Domain> {
         self.rest.next()
     }
 }

@@ -8,7 +8,7 @@ use Rattle.serde_json.specs.Written.{comma_if, compact_text, items_text, members
 use Rattle.serde_json.proofs.Texts.{print-outline}
 use Rattle.action_fields.specs.Canonical.{Fields, with_field, with_fields}
 use Rattle.action_fields.specs.Tokens.{Puts, data_tokens, field_tokens}
-use Rattle.session_lines.specs.Loaded.{first_member, later_members, member_text, name_text}
+use Rattle.session_lines.specs.Loaded.{early_text, first_members, later_members, member_text, name_text}
 
 -- a key and its value, written by themselves
 pub print-member : (name : List ℕ) (d : Data) → print (field_tokens name (Some d)) ≡ quoted name ++ 58 ∷ compact_text d
@@ -42,15 +42,36 @@ later-append [] gs = refl
 later-append (f ∷ fs) gs =
     ap (λ l. member_text f.0 f.1 ++ l) (later-append fs gs) ∙ sym (append_assoc (member_text f.0 f.1) (later_members fs) (later_members gs))
 
--- an object by its first member, two parts of later ones, and the closing brace
-pub object-text : (name : List ℕ) (d : Data) (fs gs : Fields)
-    → compact_text (object (with_fields ((name, Some d) ∷ (fs ++ gs)))) ≡ ((first_member name d ++ later_members fs) ++ later_members gs) ++ 125 ∷ []
-unfolding first_member
-object-text name d fs gs =
-    ap (λ l. 123 ∷ (quoted name ++ 58 ∷ (compact_text d ++ l))) (members-later (fs ++ gs) ∙ ap (λ l. l ++ 125 ∷ []) (later-append fs gs) ∙ append_assoc (later_members fs) (later_members gs) (125 ∷ []))
-    ∙ sym (append_assoc (first_member name d ++ later_members fs) (later_members gs) (125 ∷ [])
-    ∙ append_assoc (first_member name d) (later_members fs) (later_members gs ++ 125 ∷ [])
-    ∙ ap (λ l. 123 ∷ l) (append_assoc (quoted name) (58 ∷ compact_text d) (later_members fs ++ (later_members gs ++ 125 ∷ []))))
+-- a member and all that follows it in an object
+tail-text : (name : List ℕ) (d : Data) (fs gs : Fields)
+    → quoted name ++ 58 ∷ (compact_text d ++ members_text true (with_fields (fs ++ gs)))
+    ≡ (quoted name ++ 58 ∷ compact_text d) ++ (later_members fs ++ (later_members gs ++ 125 ∷ []))
+tail-text name d fs gs =
+    ap (λ l. quoted name ++ 58 ∷ (compact_text d ++ l)) (members-later (fs ++ gs) ∙ ap (λ l. l ++ 125 ∷ []) (later-append fs gs) ∙ append_assoc (later_members fs) (later_members gs) (125 ∷ []))
+    ∙ sym (append_assoc (quoted name) (58 ∷ compact_text d) (later_members fs ++ (later_members gs ++ 125 ∷ [])))
+
+grouped : (front : List ℕ) (fs gs : Fields)
+    → front ++ (later_members fs ++ (later_members gs ++ 125 ∷ [])) ≡ ((front ++ later_members fs) ++ later_members gs) ++ 125 ∷ []
+grouped front fs gs =
+    sym (append_assoc (front ++ later_members fs) (later_members gs) (125 ∷ []) ∙ append_assoc front (later_members fs) (later_members gs ++ 125 ∷ []))
+
+early-text : (name : List ℕ) (d : Data) (rest : List ℕ) → (quoted name ++ 58 ∷ (compact_text d ++ 44 ∷ [])) ++ rest ≡ quoted name ++ 58 ∷ (compact_text d ++ 44 ∷ rest)
+early-text name d rest =
+    append_assoc (quoted name) (58 ∷ (compact_text d ++ 44 ∷ [])) rest ∙ ap (λ l. quoted name ++ 58 ∷ l) (append_assoc (compact_text d) (44 ∷ []) rest)
+
+-- an object by a member that may be absent and the first one that is there, two parts of later ones, and the closing brace
+pub object-text : (early : List ℕ) (o : Option Data) (name : List ℕ) (d : Data) (fs gs : Fields)
+    → compact_text (object (with_fields ((early, o) ∷ (name, Some d) ∷ (fs ++ gs)))) ≡ ((first_members early o name d ++ later_members fs) ++ later_members gs) ++ 125 ∷ []
+unfolding first_members early_text
+object-text early None name d fs gs =
+    ap (λ l. 123 ∷ l) (tail-text name d fs gs) ∙ grouped (123 ∷ (quoted name ++ 58 ∷ compact_text d)) fs gs
+object-text early (Some e) name d fs gs =
+    let front = quoted early ++ 58 ∷ (compact_text e ++ 44 ∷ []) in
+    let here = quoted name ++ 58 ∷ compact_text d in
+    let rest = later_members fs ++ (later_members gs ++ 125 ∷ []) in
+    ap (λ t. 123 ∷ (quoted early ++ 58 ∷ (compact_text e ++ 44 ∷ t))) (tail-text name d fs gs)
+    ∙ ap (λ l. 123 ∷ l) (sym (early-text early e (here ++ rest)) ∙ sym (append_assoc front here rest))
+    ∙ grouped (123 ∷ (front ++ here)) fs gs
 
 -- one more body in an array
 pub item-more : (out : List ℕ) (later : Bool) (d : Data) (ds : Items) → (out ++ (comma_if later ++ compact_text d)) ++ items_text true ds ≡ out ++ items_text later (item d ds)

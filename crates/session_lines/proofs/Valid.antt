@@ -23,8 +23,8 @@ use Rattle.action_fields.proofs.Accepted.{valid-body_of}
 use Rattle.action_fields.proofs.Reading.{ordered-read}
 use Rattle.session_lines.specs.declared.fault.BadLine.{BadLine}
 use Rattle.session_lines.specs.Faults.{told}
-use Rattle.session_lines.specs.Members.{adds_in, as_add, files, files_or_none, if_own_paths, other_member, schema}
-use Rattle.staged_commit.specs.Adds.{have_own_paths}
+use Rattle.session_lines.specs.Members.{adds_in, as_add, files, files_or_none, if_own_files, other_member, schema}
+use Rattle.staged_commit.specs.Adds.{have_own_files}
 use Rattle.session_lines.specs.Requests.{IsRequest, create_of, members_say, op_in, op_request, or_field, or_why, request_of, text_request, unless_other, value_request, write_of}
 use Rattle.session_lines.specs.declared.op.Op.{Op}
 use Rattle.session_lines.specs.declared.op.Op.TheVariants as op
@@ -66,6 +66,7 @@ as_add-good (Ok (action.Info a)) h = tt
 as_add-good (Ok (action.Protocol a)) h = tt
 as_add-good (Ok (action.Meta a)) h = tt
 as_add-good (Ok (action.Txn a)) h = tt
+as_add-good (Ok (action.Domain a)) h = tt
 as_add-good (Ok (action.Remove a)) h = tt
 as_add-good (Ok (action.Add a)) h = h
 as_add-good (Err f) h = tt
@@ -84,15 +85,15 @@ adds_in-good (item d ds) h =
 
 record Good (adds : List Add) : Type 0 where
   pub fields : AreGood adds
-  pub paths : have_own_paths adds ≡ true
+  pub files : have_own_files adds ≡ true
 
-own-good : (adds : List Add) (b : Bool) → have_own_paths adds ≡ b → AreGood adds → IfSome (if b then Some adds else None) Good
-own-good adds true e h = record { fields = h; paths = e }
+own-good : (adds : List Add) (b : Bool) → have_own_files adds ≡ b → AreGood adds → IfSome (if b then Some adds else None) Good
+own-good adds true e h = record { fields = h; files = e }
 own-good adds false e h = tt
 
-each-good : (o : Option (List Add)) → IfSome o AreGood → IfSome (option_and_then if_own_paths o) Good
+each-good : (o : Option (List Add)) → IfSome o AreGood → IfSome (option_and_then if_own_files o) Good
 each-good None h = tt
-each-good (Some adds) h = own-good adds (have_own_paths adds) refl h
+each-good (Some adds) h = own-good adds (have_own_files adds) refl h
 
 files-good : (d : Data) → is_ordered d ≡ true → IfSome (files d) Good
 files-good null h = tt
@@ -139,8 +140,8 @@ fault-good f None h = tt
 fault-good f (Some adds) h = h
 
 no_files : Good []
-unfolding have_own_paths
-no_files = record { fields = refl; paths = refl }
+unfolding have_own_files
+no_files = record { fields = refl; files = refl }
 
 given-good : (f : List ℕ) (o : Option Data) → IfSome o (λ e. is_ordered e ≡ true) → IfOk (if_given files f o) (λ found. Good (unwrap_or found []))
 given-good f None h = no_files
@@ -158,7 +159,7 @@ write_of-good d h =
     bind-ok Good IsRequest _
     (λ adds k. bind-ok (λ a. Unit {0}) IsRequest _
     (λ app u. bind-ok (λ a. Unit {0}) IsRequest _
-    (λ n v. record { reads = refl; removes = refl; change = refl; fields = k.fields; paths = k.paths })
+    (λ n v. record { reads = refl; removes = refl; domains = refl; change = refl; fields = k.fields; files = k.files })
     (required from_zero (codes "number") d) (any-ok _))
     (required path (codes "app") d) (any-ok _))
     (files_or_none (codes "adds") d) (files_or_none-good (codes "adds") d h)

@@ -1,4 +1,5 @@
 pub mod Faults
+pub mod Names
 pub mod Members
 pub mod Requests
 pub mod Replies

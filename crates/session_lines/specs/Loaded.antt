@@ -18,6 +18,11 @@ abbrev pub later_members : Fields → List ℕ
 later_members [] = []
 later_members (f ∷ fs) = member_text f.0 f.1 ++ later_members fs
 
--- the opening brace and the first member
-unfoldable pub first_member : List ℕ → Data → List ℕ
-first_member name d = 123 ∷ (quoted name ++ 58 ∷ compact_text d)
+-- a member with the comma behind it, or nothing where its value is absent
+unfoldable pub early_text : List ℕ → Option Data → List ℕ
+early_text name None = []
+early_text name (Some d) = quoted name ++ 58 ∷ (compact_text d ++ 44 ∷ [])
+
+-- the opening brace, a member that may be absent, and the first member that is always there
+unfoldable pub first_members : List ℕ → Option Data → List ℕ → Data → List ℕ
+first_members early o name d = 123 ∷ (early_text early o ++ (quoted name ++ 58 ∷ compact_text d))

@@ -1,6 +1,6 @@
 -- The members of a request, as JSON values.
 --     schema       a text that does not speak of invariants
---     files        a list of bodies of `add`, each with a path of its own
+--     files        a list of bodies of `add` in which no file stands twice
 use Rattle.std.specs.Prelude.{ℕ, ◌&&◌, ◌||◌, Bool, true, not, List, [], ◌∷◌, ◌++◌, codes, bytes_eq, Option, Some, None, is_some, option_map, option_and_then, Result, Ok, Err, unwrap_or, if◌then◌else◌}
 use Rattle.std.specs.List.{list_any}
 use Rattle.serde_json.specs.Data.{Data, Items, no_items, item, Members, no_members, member}
@@ -12,7 +12,7 @@ use Rattle.action_fields.specs.declared.kind.Kind.TheVariants as kind
 use Rattle.action_fields.specs.Bodies.{body_of, optional}
 use Rattle.action_fields.specs.Gives.{◌>>=◌}
 use Rattle.action_fields.specs.Types.{text}
-use Rattle.staged_commit.specs.Adds.{have_own_paths}
+use Rattle.staged_commit.specs.Adds.{have_own_files}
 use Rattle.table_rules.specs.Texts.{contains_text}
 use Rattle.session_lines.specs.declared.op.Op.{Op}
 use Rattle.session_lines.specs.declared.op.Op.TheVariants as op
@@ -53,6 +53,7 @@ as_add (Ok (action.Info a)) = None
 as_add (Ok (action.Protocol a)) = None
 as_add (Ok (action.Meta a)) = None
 as_add (Ok (action.Txn a)) = None
+as_add (Ok (action.Domain a)) = None
 as_add (Ok (action.Remove a)) = None
 as_add (Ok (action.Add a)) = Some a
 as_add (Err f) = None
@@ -61,11 +62,11 @@ abbrev pub adds_in : Items → Option (List Add)
 adds_in no_items = Some []
 adds_in (item d ds) = option_and_then (λ a. option_map (λ rest. a ∷ rest) (adds_in ds)) (as_add (body_of kind.Add d))
 
-abbrev pub if_own_paths : List Add → Option (List Add)
-if_own_paths adds = if have_own_paths adds then Some adds else None
+abbrev pub if_own_files : List Add → Option (List Add)
+if_own_files adds = if have_own_files adds then Some adds else None
 
 abbrev pub files : Data → Option (List Add)
-files d = option_and_then if_own_paths (option_and_then adds_in (as_array d))
+files d = option_and_then if_own_files (option_and_then adds_in (as_array d))
 
 -- none where they are absent
 unfoldable pub files_or_none : List ℕ → Data → Result (List Add) (List ℕ)

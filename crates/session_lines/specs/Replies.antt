@@ -1,16 +1,17 @@
 -- The text of a reply: an object with its members in byte order of their names, ended by LF.
-use Rattle.std.specs.Prelude.{ℕ, ℤ, Bool, true, false, List, [], ◌∷◌, ◌++◌, map, codes, Option, Some, None, option_map, unwrap_or, ⊤}
+use Rattle.std.specs.Prelude.{ℕ, ℤ, Bool, true, false, List, [], ◌∷◌, ◌++◌, map, codes, Option, Some, None, option_map, unwrap_or, if◌then◌else◌, ⊤}
 use Rattle.serde_json.specs.Data.{Data, null, number, unsigned, string, array, object, Items, no_items, item}
 use Rattle.serde_json.specs.Written.{compact_text}
 use Rattle.action_types.specs.declared.actions.Action.{Action}
 use Rattle.action_types.specs.declared.actions.Action.TheVariants as action
+use Rattle.action_types.specs.declared.actions.Domain.{Domain}
 use Rattle.action_fields.specs.Canonical.{Fields, with_fields, integer_data, body_data}
 use Rattle.conflict_rules.specs.declared.clash.Rule.{Rule}
 use Rattle.conflict_rules.specs.declared.clash.Rule.TheVariants as clash
 use Rattle.log_names.specs.declared.LogName.{LogName}
 use Rattle.log_names.specs.Texts.{name_text, uuid_text}
 use Rattle.reconcile.specs.declared.state.State.{State}
-use Rattle.reconcile.specs.Standing.{files_in, tombstones_in, txns_in, protocol_in, meta_in}
+use Rattle.reconcile.specs.Standing.{files_in, tombstones_in, domains_in, txns_in, protocol_in, meta_in}
 use Rattle.table_rules.specs.declared.broken.Broken.{Broken}
 use Rattle.table_rules.specs.declared.broken.Broken.TheVariants as broken
 use Rattle.session_lines.specs.declared.fault.LineWhy.{LineWhy}
@@ -29,12 +30,14 @@ broken_name (broken.Property name) = codes "property"
 broken_name broken.Invariants = codes "invariants"
 broken_name broken.Columns = codes "columns"
 broken_name (broken.TxnNotAfter app recorded) = codes "txnNotAfter"
-broken_name (broken.NotLive path) = codes "notLive"
-broken_name (broken.AppendOnly path) = codes "appendOnly"
-broken_name (broken.Partition path) = codes "partition"
+broken_name (broken.NotLive path vector) = codes "notLive"
+broken_name (broken.AppendOnly path vector) = codes "appendOnly"
+broken_name (broken.Partition path vector) = codes "partition"
+broken_name (broken.Vector path vector) = codes "vector"
+broken_name (broken.Domain domain) = codes "domain"
 broken_name broken.Memory = codes "memory"
 
--- the name, path or application that the rule names, else the empty text
+-- the name, path, application or domain that the rule names, else the empty text
 abbrev pub broken_key : Broken → List ℕ
 broken_key broken.NoInfo = []
 broken_key broken.NoMeta = []
@@ -44,10 +47,29 @@ broken_key (broken.Property name) = name
 broken_key broken.Invariants = []
 broken_key broken.Columns = []
 broken_key (broken.TxnNotAfter app recorded) = app
-broken_key (broken.NotLive path) = path
-broken_key (broken.AppendOnly path) = path
-broken_key (broken.Partition path) = path
+broken_key (broken.NotLive path vector) = path
+broken_key (broken.AppendOnly path vector) = path
+broken_key (broken.Partition path vector) = path
+broken_key (broken.Vector path vector) = path
+broken_key (broken.Domain domain) = domain
 broken_key broken.Memory = []
+
+-- the unique id of the vector, where the rule names a file with one
+abbrev pub broken_vector : Broken → Option (List ℕ)
+broken_vector broken.NoInfo = None
+broken_vector broken.NoMeta = None
+broken_vector (broken.TimeNotAfter last) = None
+broken_vector (broken.Feature name) = None
+broken_vector (broken.Property name) = None
+broken_vector broken.Invariants = None
+broken_vector broken.Columns = None
+broken_vector (broken.TxnNotAfter app recorded) = None
+broken_vector (broken.NotLive path vector) = vector
+broken_vector (broken.AppendOnly path vector) = vector
+broken_vector (broken.Partition path vector) = vector
+broken_vector (broken.Vector path vector) = vector
+broken_vector (broken.Domain domain) = None
+broken_vector broken.Memory = None
 
 abbrev pub rule_name : Rule → List ℕ
 rule_name clash.Protocol = codes "protocol"
@@ -56,6 +78,7 @@ rule_name clash.Transaction = codes "transaction"
 rule_name clash.DeleteDelete = codes "deleteDelete"
 rule_name clash.DeleteRead = codes "deleteRead"
 rule_name clash.Append = codes "append"
+rule_name clash.Domain = codes "domain"
 
 -- the file's name, or the empty text for the folder
 abbrev pub spot_name : Option LogName → List ℕ
@@ -84,7 +107,20 @@ said name = Some (string name)
 
 -- ---- replies
 
--- the bodies of the live files and of the tombstones, without dataChange, and of the latest txns; each in byte order of its key
+-- the bodies of the domains in byte order of their names
+abbrev pub all_domains_data : State → Data
+all_domains_data s = bodies_data true (map action.Domain (domains_in s))
+
+-- the same, where there are some
+abbrev pub are_some : List Domain → Bool
+are_some [] = false
+are_some (d ∷ ds) = true
+
+abbrev pub domains_data : State → Option Data
+domains_data s = if are_some (domains_in s) then Some (all_domains_data s) else None
+
+-- the bodies of the live files and of the tombstones in the order of files, without dataChange, and of the latest txns in byte order
+-- of their applications
 abbrev pub files_data : State → Data
 files_data s = bodies_data false (map action.Add (files_in s))
 
@@ -113,7 +149,8 @@ end_fields s time version =
     ∷ (codes "version", Some (count_data version)) ∷ []
 
 abbrev pub loaded_fields : ℕ → State → ℤ → ℕ → Fields
-loaded_fields latest s time version = (codes "files", Some (files_data s)) ∷ (table_fields latest s ++ end_fields s time version)
+loaded_fields latest s time version =
+    (codes "domains", domains_data s) ∷ (codes "files", Some (files_data s)) ∷ (table_fields latest s ++ end_fields s time version)
 
 abbrev pub bad_line_fields : ℕ → List ℕ → Fields
 bad_line_fields at reason = (codes "at", Some (count_data at)) ∷ (codes "reply", said (codes "badLine")) ∷ (codes "why", said reason) ∷ []
@@ -144,8 +181,18 @@ moment_fields time version = (codes "time", Some (integer_data time)) ∷ (codes
 abbrev pub conflict_front : ℕ → List ℕ → ℕ → Fields
 conflict_front base key latest = (codes "base", Some (count_data base)) ∷ (codes "key", said key) ∷ (codes "latest", Some (count_data latest)) ∷ []
 
-abbrev pub conflict_rest : Rule → ℕ → Fields
-conflict_rest rule winner = (codes "reply", said (codes "conflict")) ∷ (codes "rule", said (rule_name rule)) ∷ (codes "winner", Some (count_data winner)) ∷ []
+abbrev pub conflict_rest : Rule → Option (List ℕ) → ℕ → Fields
+conflict_rest rule vector winner =
+    (codes "reply", said (codes "conflict"))
+    ∷ (codes "rule", said (rule_name rule))
+    ∷ (codes "vector", option_map string vector)
+    ∷ (codes "winner", Some (count_data winner)) ∷ []
+
+abbrev pub broken_rest : Broken → Fields
+broken_rest b =
+    (codes "reply", said (codes "broken"))
+    ∷ (codes "rule", said (broken_name b))
+    ∷ (codes "vector", option_map string (broken_vector b)) ∷ []
 
 abbrev pub reply_fields : Reply → Fields
 reply_fields (reply.Committed base time version) = committed_front base ++ moment_fields time version
@@ -154,12 +201,8 @@ reply_fields (reply.Already latest recorded) =
 reply_fields (reply.Loaded latest s time version) = loaded_fields latest s time version
 reply_fields reply.NoTable = named_fields (codes "noTable")
 reply_fields (reply.Exists latest) = latest_fields latest (codes "exists")
-reply_fields (reply.Broken base b) =
-    (codes "base", Some (base_data base))
-    ∷ (codes "key", said (broken_key b))
-    ∷ (codes "reply", said (codes "broken"))
-    ∷ (codes "rule", said (broken_name b)) ∷ []
-reply_fields (reply.Conflict base key latest rule winner) = conflict_front base key latest ++ conflict_rest rule winner
+reply_fields (reply.Broken base b) = (codes "base", Some (base_data base)) ∷ (codes "key", said (broken_key b)) ∷ broken_rest b
+reply_fields (reply.Conflict base key latest rule vector winner) = conflict_front base key latest ++ conflict_rest rule vector winner
 reply_fields (reply.Contended attempts latest) = (codes "attempts", Some (count_data attempts)) ∷ latest_fields latest (codes "contended")
 reply_fields (reply.Full latest) = latest_fields latest (codes "full")
 reply_fields (reply.TimeEnd base last) =
@@ -189,7 +232,7 @@ IsShort (reply.Already latest recorded) = ⊤
 IsShort reply.NoTable = ⊤
 IsShort (reply.Exists latest) = ⊤
 IsShort (reply.Broken base b) = ⊤
-IsShort (reply.Conflict base key latest rule winner) = ⊤
+IsShort (reply.Conflict base key latest rule vector winner) = ⊤
 IsShort (reply.Contended attempts latest) = ⊤
 IsShort (reply.Full latest) = ⊤
 IsShort (reply.TimeEnd base last) = ⊤

@@ -31,7 +31,7 @@ write_of d = do
   adds ← files_or_none (codes "adds") d
   app ← required path (codes "app") d
   number ← required from_zero (codes "number") d
-  Ok (request.Write (record { app = app; number = number; level = level.WriteSerializable; reads = reads.None; adds = adds; removes = []; change = None }))
+  Ok (request.Write (record { app = app; number = number; level = level.WriteSerializable; reads = reads.None; adds = adds; removes = []; domains = []; change = None }))
 
 abbrev pub members_say : Op → Data → Result Request (List ℕ)
 members_say op.Create d = create_of d

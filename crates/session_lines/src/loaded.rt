@@ -4,9 +4,10 @@ ghost use Rattle.json.specs.Print.{quoted};
 ghost use Rattle.serde_json.specs.Data.{string};
 ghost use Rattle.serde_json.specs.Written.{comma_if, compact_text};
 ghost use Rattle.action_fields.specs.Canonical.{body_data, integer_data};
-ghost use Rattle.session_lines.specs.Loaded.{first_member, later_members, member_text, name_text};
+ghost use Rattle.reconcile.specs.Standing.{domains_in};
+ghost use Rattle.session_lines.specs.Loaded.{early_text, first_members, later_members, member_text, name_text};
 ghost use Rattle.session_lines.specs.declared.reply.Reply.TheVariants as reply;
-ghost use Rattle.session_lines.specs.Replies.{count_data, end_fields, files_data, gone_data, meta_data, protocol_data, reply_data, table_fields, txns_data};
+ghost use Rattle.session_lines.specs.Replies.{all_domains_data, are_some, count_data, domains_data, end_fields, files_data, gone_data, meta_data, protocol_data, reply_data, table_fields, txns_data};
 
 use crate::put::{put_count, put_integer, put_text};
 use action_fields::push_body;
@@ -34,14 +35,37 @@ pub(crate) fn loaded_text(
     Ok(out)
 }
 
-/// The opening brace and the live files.
-#[tactic(auto, unfolding(crate::specs::Loaded::first_member))]
+/// The opening brace, the domains where there are some, and the live files.
+#[tactic(auto, unfolding(crate::specs::Loaded::first_members), using(action_fields::proofs::Tokens::token_laws))]
 fn push_first(alloc: Global, out: &mut Vec<u8>, state: &State) -> Result<(), AllocError>
-    ensures { OnOk result (out.new.items ≡ out.old.items ++ first_member (codes "files") (files_data state.now)) }
+    ensures { OnOk result (out.new.items ≡ out.old.items ++ first_members (codes "domains") (domains_data state.now) (codes "files") (files_data state.now)) }
 {
     out.push(b'{')?;
+    push_domains(alloc, out, state)?;
     push_key(alloc, out, "files")?;
     push_files(alloc, out, state)
+}
+
+/// The domains and a comma, where there are some.
+#[tactic(auto, unfolding(crate::specs::Loaded::early_text), using(action_fields::proofs::Tokens::token_laws))]
+fn push_domains(alloc: Global, out: &mut Vec<u8>, state: &State) -> Result<(), AllocError>
+    ensures { OnOk result (out.new.items ≡ out.old.items ++ early_text (codes "domains") (domains_data state.now)) }
+{
+    if !has_domains(state) {
+        return Ok(());
+    }
+    push_key(alloc, out, "domains")?;
+    push_each_domain(alloc, out, state)?;
+    out.push(b',')?;
+    Ok(())
+}
+
+/// Whether the state has a domain.
+fn has_domains(state: &State) -> bool
+    ensures { result ≡ are_some (domains_in state.now) }
+{
+    let mut domains = state.domains();
+    domains.next().is_some()
 }
 
 /// The last version, the metadata and the protocol.
@@ -208,6 +232,21 @@ fn push_tombstones(alloc: Global, out: &mut Vec<u8>, state: &State) -> Result<()
     for file in state.tombstones() {
         let action = Action::Remove(file.copy()?);
         push_item(alloc, out, later, &action, false)?;
+        later = true;
+    }
+    out.push(b']')?;
+    Ok(())
+}
+
+/// The domains.
+fn push_each_domain(alloc: Global, out: &mut Vec<u8>, state: &State) -> Result<(), AllocError>
+    ensures { OnOk result (out.new.items ≡ out.old.items ++ compact_text (all_domains_data state.now)) }
+{
+    out.push(b'[')?;
+    let mut later = false;
+    for domain in state.domains() {
+        let body = Action::Domain(domain.copy()?);
+        push_item(alloc, out, later, &body, true)?;
         later = true;
     }
     out.push(b']')?;

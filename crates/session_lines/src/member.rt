@@ -128,7 +128,7 @@ pub(crate) fn required_from_zero(
     needed(alloc, name, found)
 }
 
-/// A list of bodies of `add`, each with a path of its own; none where it is absent.
+/// A list of bodies of `add` in which no file stands twice; none where it is absent.
 pub(crate) fn files_or_none(alloc: Global, object: &Tree<'_>, name: &str) -> Result<Adds, BadBody>
     ensures { Gives bodies.told (λ x. x) result (files_or_none name.now (view object.now)) }
 {

@@ -1,7 +1,9 @@
 //! The names and the keys of rules, and the names of reasons.
 ghost use Rattle.std.specs.Prelude.{◌≡◌};
-ghost use Rattle.session_lines.specs.Replies.{broken_key, broken_name, rule_name};
+ghost use Rattle.std.specs.Option.{option_copied};
+ghost use Rattle.session_lines.specs.Replies.{broken_key, broken_name, broken_vector, rule_name};
 
+use action_types::Name;
 use conflict_rules::Rule;
 use table_rules::Broken;
 
@@ -21,26 +23,43 @@ pub(crate) fn broken_name(why: &Broken) -> &'static str
         Broken::NotLive { .. } => "notLive",
         Broken::AppendOnly { .. } => "appendOnly",
         Broken::Partition { .. } => "partition",
+        Broken::Vector { .. } => "vector",
+        Broken::Domain { .. } => "domain",
         Broken::Memory => "memory",
     }
 }
 
-/// The name, path or application that a broken rule names, else the empty text.
+/// The name, path, application or domain that a broken rule names, else the empty text.
 pub(crate) fn broken_key(why: &Broken) -> &str
     ensures { result.now ≡ broken_key why.now }
 {
     match why {
         Broken::Feature { name } | Broken::Property { name } => name.as_str(),
         Broken::TxnNotAfter { app, .. } => app.as_str(),
-        Broken::NotLive { path } => path.as_str(),
-        Broken::AppendOnly { path } => path.as_str(),
-        Broken::Partition { path } => path.as_str(),
+        Broken::NotLive { path, .. } => path.as_str(),
+        Broken::AppendOnly { path, .. } => path.as_str(),
+        Broken::Partition { path, .. } => path.as_str(),
+        Broken::Vector { path, .. } => path.as_str(),
+        Broken::Domain { domain } => domain.as_str(),
         Broken::NoInfo => "",
         Broken::NoMeta => "",
         Broken::TimeNotAfter { .. } => "",
         Broken::Invariants => "",
         Broken::Columns => "",
         Broken::Memory => "",
+    }
+}
+
+/// The unique id of the vector, where a broken rule names a file with one.
+pub(crate) fn broken_vector(why: &Broken) -> Option<&Name>
+    ensures { option_copied result ≡ broken_vector why.now }
+{
+    match why {
+        Broken::NotLive { vector, .. } => vector.as_ref(),
+        Broken::AppendOnly { vector, .. } => vector.as_ref(),
+        Broken::Partition { vector, .. } => vector.as_ref(),
+        Broken::Vector { vector, .. } => vector.as_ref(),
+        _ => None,
     }
 }
 
@@ -55,5 +74,6 @@ pub(crate) fn rule_name(rule: Rule) -> &'static str
         Rule::DeleteDelete => "deleteDelete",
         Rule::DeleteRead => "deleteRead",
         Rule::Append => "append",
+        Rule::Domain => "domain",
     }
 }

@@ -2,12 +2,14 @@
 //! A call that is refused, for want of memory alone, may have written a part; what stood before the writer is kept.
 #![tactic(auto, unfolding(action_fields::specs::Tokens::field_tokens))]
 
-ghost use Rattle.std.specs.Prelude.{Some};
+ghost use Rattle.std.specs.Prelude.{Some, option_map};
+ghost use Rattle.std.specs.Option.{option_copied};
 ghost use Rattle.serde_json.specs.Data.{string};
 ghost use Rattle.action_fields.specs.Canonical.{integer_data};
 ghost use Rattle.action_fields.specs.Tokens.{Puts, field_tokens};
 ghost use Rattle.session_lines.specs.Replies.{base_data, count_data};
 
+use action_types::Name;
 use json::Writer;
 use std::alloc::AllocError;
 
@@ -17,6 +19,20 @@ pub(crate) fn put_text(out: &mut Writer, name: &str, text: &str) -> Result<(), A
 {
     out.key(name)?;
     out.string(text)
+}
+
+/// A member with a text, or nothing.
+pub(crate) fn put_optional_text(
+    out: &mut Writer,
+    name: &str,
+    text: Option<&Name>,
+) -> Result<(), AllocError>
+    ensures { Puts result out.old out.new (field_tokens name.now (option_map string (option_copied text.entry))) }
+{
+    match text {
+        None => Ok(()),
+        Some(text) => put_text(out, name, text.as_str()),
+    }
 }
 
 /// A member with a number from 0.

@@ -13,7 +13,7 @@ use crate::op::Op;
 use crate::request::Request;
 use action_fields::BadBody;
 use action_types::{Name, Names, Pairs};
-use conflict_rules::{Intent, Level, Reads, Removes};
+use conflict_rules::{Domains, Intent, Level, Reads, Removes};
 use json_tree::{Members, ParseError, Scratch, Tree};
 use staged_commit::Create;
 use std::alloc::{AllocError, Global};
@@ -159,6 +159,7 @@ fn read_write(alloc: Global, value: &Tree<'_>) -> Result<Request, BadBody>
         reads: Reads::None,
         adds,
         removes: Removes::new(alloc),
+        domains: Domains::new(alloc),
         change: None,
     }))
 }

@@ -38,12 +38,13 @@ pub enum Reply {
         base: Option<u64>,
         why: Broken,
     },
-    /// The write conflicts with the commit of the version `winner`.
+    /// The write conflicts with the commit of the version `winner`; the vector is the unique id where the key is a file with one.
     Conflict {
         base: u64,
         key: Name,
         latest: u64,
         rule: Rule,
+        vector: Option<Name>,
         winner: u64,
     },
     /// Others ratified first, so often.

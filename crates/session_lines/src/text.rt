@@ -7,11 +7,11 @@ ghost use Rattle.std.specs.Prelude.{Some};
 ghost use Rattle.serde_json.specs.Data.{string};
 ghost use Rattle.action_fields.specs.Tokens.{field_tokens};
 ghost use Rattle.log_names.specs.Texts.{uuid_text};
-ghost use Rattle.session_lines.specs.Replies.{IsShort, bad_line, bad_line_fields, committed_front, conflict_front, conflict_rest, latest_fields, moment_fields, named_fields, reply_data, reply_fields, spot_name};
+ghost use Rattle.session_lines.specs.Replies.{IsShort, bad_line, bad_line_fields, broken_rest, committed_front, conflict_front, conflict_rest, latest_fields, moment_fields, named_fields, reply_data, reply_fields, spot_name};
 
 use crate::fault::LineWhy;
-use crate::names::{broken_key, broken_name, rule_name};
-use crate::put::{put_base, put_count, put_integer, put_text};
+use crate::names::{broken_key, broken_name, broken_vector, rule_name};
+use crate::put::{put_base, put_count, put_integer, put_optional_text, put_text};
 use crate::reply::Reply;
 use action_types::Name;
 use conflict_rules::Rule;
@@ -51,8 +51,9 @@ fn put_fields(out: &mut Writer, reply: &Reply) -> Result<(), AllocError>
             key,
             latest,
             rule,
+            vector,
             winner,
-        } => { put_conflict(out, *base, key, *latest, *rule, *winner) }
+        } => { put_conflict(out, *base, key, *latest, *rule, vector, *winner) }
         Reply::Contended { attempts, latest } => put_contended(out, *attempts, *latest),
         Reply::Full { latest } => put_latest(out, *latest, "full"),
         Reply::TimeEnd { base, last } => put_time_end(out, *base, *last),
@@ -119,8 +120,16 @@ fn put_broken(out: &mut Writer, base: Option<u64>, why: &Broken) -> Result<(), A
 {
     put_base(out, "base", base)?;
     put_text(out, "key", broken_key(why))?;
+    put_broken_rest(out, why)
+}
+
+/// The name of the reply, the rule, and the unique id of the vector where the key is a file with one.
+fn put_broken_rest(out: &mut Writer, why: &Broken) -> Result<(), AllocError>
+    ensures { Puts result out.old out.new (fields_tokens (broken_rest why.now)) }
+{
     put_text(out, "reply", "broken")?;
-    put_text(out, "rule", broken_name(why))
+    put_text(out, "rule", broken_name(why))?;
+    put_optional_text(out, "vector", broken_vector(why))
 }
 
 fn put_conflict(
@@ -129,12 +138,13 @@ fn put_conflict(
     key: &Name,
     latest: u64,
     rule: Rule,
+    vector: &Option<Name>,
     winner: u64,
 ) -> Result<(), AllocError>
-    ensures { Puts result out.old out.new (fields_tokens (reply_fields (Reply.Conflict base key.now latest rule winner))) }
+    ensures { Puts result out.old out.new (fields_tokens (reply_fields (Reply.Conflict base key.now latest rule vector.now winner))) }
 {
     put_conflict_front(out, base, key, latest)?;
-    put_conflict_rest(out, rule, winner)
+    put_conflict_rest(out, rule, vector, winner)
 }
 
 fn put_conflict_front(
@@ -150,11 +160,17 @@ fn put_conflict_front(
     put_count(out, "latest", latest)
 }
 
-fn put_conflict_rest(out: &mut Writer, rule: Rule, winner: u64) -> Result<(), AllocError>
-    ensures { Puts result out.old out.new (fields_tokens (conflict_rest rule winner)) }
+fn put_conflict_rest(
+    out: &mut Writer,
+    rule: Rule,
+    vector: &Option<Name>,
+    winner: u64,
+) -> Result<(), AllocError>
+    ensures { Puts result out.old out.new (fields_tokens (conflict_rest rule vector.now winner)) }
 {
     put_text(out, "reply", "conflict")?;
     put_text(out, "rule", rule_name(rule))?;
+    put_optional_text(out, "vector", vector.as_ref())?;
     put_count(out, "winner", winner)
 }
 

@@ -16,3 +16,5 @@ mod session_texts;
 mod sessions;
 #[cfg(test)]
 mod turns;
+#[cfg(test)]
+mod vectors;

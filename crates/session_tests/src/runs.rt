@@ -15,6 +15,9 @@ const ADD_A: &str =
 const ADD_B: &str =
     "{\"op\":\"write\",\"app\":\"A\",\"number\":2,\"adds\":[{\"path\":\"b\",\"partitionValues\":{},\"size\":10,\"modificationTime\":5,\"dataChange\":true}]}\n";
 
+const ADD_MARKED: &str =
+    "{\"op\":\"write\",\"app\":\"A\",\"number\":1,\"adds\":[{\"path\":\"a\",\"partitionValues\":{},\"size\":10,\"modificationTime\":5,\"dataChange\":true,\"deletionVector\":{\"storageType\":\"u\",\"pathOrInlineDv\":\"x1\",\"offset\":4,\"sizeInBytes\":40,\"cardinality\":6}}]}\n";
+
 const LOAD: &str = "{\"op\":\"load\"}\n";
 
 const PROTOCOL: &str =
@@ -30,6 +33,9 @@ const FIRST_ADD: &str = "{\"base\":0,\"reply\":\"committed\",\"time\":1001,\"ver
 const SECOND_ADD: &str = "{\"base\":1,\"reply\":\"committed\",\"time\":1002,\"version\":2}\n";
 
 const ALREADY: &str = "{\"latest\":1,\"recorded\":1,\"reply\":\"already\"}\n";
+
+const UNTOLD_VECTOR: &str =
+    "{\"base\":0,\"key\":\"a\",\"reply\":\"broken\",\"rule\":\"vector\",\"vector\":\"ux1@4\"}\n";
 
 const NO_TABLE: &str = "{\"reply\":\"noTable\"}\n";
 
@@ -172,6 +178,9 @@ fn appends_are_committed_once(rt: HostRuntime) -> Result<(), Stop> {
     assert!(rt; replies(alloc, input.as_slice(), &[CREATED, FIRST_ADD, SECOND_ADD])?);
     let input = [CREATE, ADD_A, ADD_A, ADD_A];
     let output = [CREATED, FIRST_ADD, ALREADY, ALREADY];
+    assert!(rt; replies(alloc, input.as_slice(), output.as_slice())?);
+    let input = [CREATE, ADD_MARKED, ADD_A];
+    let output = [CREATED, UNTOLD_VECTOR, FIRST_ADD];
     assert!(rt; replies(alloc, input.as_slice(), output.as_slice())?);
     Ok(())
 }

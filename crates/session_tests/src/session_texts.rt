@@ -24,7 +24,7 @@ fn outcome(alloc: Global, line: &str) -> Result<String, Fail> {
 }
 
 /// A line, and what it is read as.
-const LINES: [(&str, &str); 12] = [
+const LINES: [(&str, &str); 15] = [
     (
         "{\"op\":\"create\",\"id\":\"t1\",\"schema\":\"{}\"}",
         "create \"t1\"",
@@ -58,6 +58,18 @@ const LINES: [(&str, &str); 12] = [
         "Field { field: \"number\" }",
     ),
     ("{\"op\":\"load\",\"x\":1e999}", "NotJson"),
+    (
+        "{\"op\":\"write\",\"app\":\"A\",\"number\":1,\"adds\":[{\"path\":\"a\",\"partitionValues\":{},\"size\":10,\"modificationTime\":5,\"dataChange\":true},{\"path\":\"a\",\"partitionValues\":{},\"size\":10,\"modificationTime\":5,\"dataChange\":true,\"deletionVector\":{\"storageType\":\"u\",\"pathOrInlineDv\":\"x1\",\"sizeInBytes\":40,\"cardinality\":6}}]}",
+        "write \"A\" 1",
+    ),
+    (
+        "{\"op\":\"write\",\"app\":\"A\",\"number\":1,\"adds\":[{\"path\":\"a\",\"partitionValues\":{},\"size\":10,\"modificationTime\":5,\"dataChange\":true,\"deletionVector\":{\"storageType\":\"u\",\"pathOrInlineDv\":\"x1\",\"sizeInBytes\":40,\"cardinality\":6}},{\"path\":\"a\",\"partitionValues\":{},\"size\":10,\"modificationTime\":5,\"dataChange\":true,\"deletionVector\":{\"storageType\":\"ux\",\"pathOrInlineDv\":\"1\",\"sizeInBytes\":40,\"cardinality\":7}}]}",
+        "Field { field: \"adds\" }",
+    ),
+    (
+        "{\"op\":\"write\",\"app\":\"A\",\"number\":1,\"adds\":[{\"path\":\"a\",\"partitionValues\":{},\"size\":10,\"modificationTime\":5,\"dataChange\":true,\"deletionVector\":{\"storageType\":\"u\",\"pathOrInlineDv\":\"x1\",\"sizeInBytes\":40}}]}",
+        "Field { field: \"adds\" }",
+    ),
 ];
 
 #[test]
@@ -112,31 +124,50 @@ fn plain(number: u8) -> Reply {
     }
 }
 
-/// A reply with a text of its own, or with a state.
+/// A reply with texts of its own, or with a state.
 fn named(alloc: Global, number: u8) -> Result<Reply, Fail> {
     let name = Name::from_str(alloc, "a")?;
+    let vector = Some(Name::from_str(alloc, "ux1@4")?);
     match number {
-        0 => Ok(Reply::Broken {
-            base: Some(0),
-            why: Broken::NotLive { path: name },
-        }),
-        1 => Ok(Reply::Conflict {
-            base: 1,
-            key: name,
-            latest: 2,
-            rule: Rule::DeleteDelete,
-            winner: 2,
-        }),
+        0 => Ok(broken(Broken::NotLive {
+            path: name,
+            vector: None,
+        })),
+        1 => Ok(conflict(Rule::DeleteDelete, name, None)),
         2 => Ok(Reply::BadLine {
             at: 4,
             why: LineWhy::Field { field: name },
         }),
-        _ => Ok(Reply::Loaded {
+        3 => Ok(Reply::Loaded {
             latest: 1,
             state: State::empty(alloc),
             time: 1000,
             version: 1,
         }),
+        4 => Ok(broken(Broken::NotLive { path: name, vector })),
+        5 => Ok(broken(Broken::AppendOnly { path: name, vector })),
+        6 => Ok(broken(Broken::Partition { path: name, vector })),
+        7 => Ok(broken(Broken::Vector { path: name, vector })),
+        8 => Ok(broken(Broken::Domain { domain: name })),
+        9 => Ok(conflict(Rule::Append, name, vector)),
+        _ => Ok(conflict(Rule::Domain, name, None)),
+    }
+}
+
+/// A broken rule at version 0.
+fn broken(why: Broken) -> Reply {
+    Reply::Broken { base: Some(0), why }
+}
+
+/// A conflict of version 1 with version 2.
+fn conflict(rule: Rule, key: Name, vector: Option<Name>) -> Reply {
+    Reply::Conflict {
+        base: 1,
+        key,
+        latest: 2,
+        rule,
+        vector,
+        winner: 2,
     }
 }
 
@@ -188,7 +219,7 @@ fn plain_replies(rt: HostRuntime) -> Result<(), Fail> {
     Ok(())
 }
 
-const NAMED: [(u8, &str); 4] = [
+const NAMED: [(u8, &str); 11] = [
     (
         0,
         "{\"base\":0,\"key\":\"a\",\"reply\":\"broken\",\"rule\":\"notLive\"}\n",
@@ -204,6 +235,34 @@ const NAMED: [(u8, &str); 4] = [
     (
         3,
         "{\"files\":[],\"latest\":1,\"removed\":[],\"reply\":\"loaded\",\"time\":1000,\"txns\":[],\"version\":1}\n",
+    ),
+    (
+        4,
+        "{\"base\":0,\"key\":\"a\",\"reply\":\"broken\",\"rule\":\"notLive\",\"vector\":\"ux1@4\"}\n",
+    ),
+    (
+        5,
+        "{\"base\":0,\"key\":\"a\",\"reply\":\"broken\",\"rule\":\"appendOnly\",\"vector\":\"ux1@4\"}\n",
+    ),
+    (
+        6,
+        "{\"base\":0,\"key\":\"a\",\"reply\":\"broken\",\"rule\":\"partition\",\"vector\":\"ux1@4\"}\n",
+    ),
+    (
+        7,
+        "{\"base\":0,\"key\":\"a\",\"reply\":\"broken\",\"rule\":\"vector\",\"vector\":\"ux1@4\"}\n",
+    ),
+    (
+        8,
+        "{\"base\":0,\"key\":\"a\",\"reply\":\"broken\",\"rule\":\"domain\"}\n",
+    ),
+    (
+        9,
+        "{\"base\":1,\"key\":\"a\",\"latest\":2,\"reply\":\"conflict\",\"rule\":\"append\",\"vector\":\"ux1@4\",\"winner\":2}\n",
+    ),
+    (
+        10,
+        "{\"base\":1,\"key\":\"a\",\"latest\":2,\"reply\":\"conflict\",\"rule\":\"domain\",\"winner\":2}\n",
     ),
 ];
 

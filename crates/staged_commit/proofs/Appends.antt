@@ -1,6 +1,6 @@
--- Which rules an append breaks: its application's number, the metadata and its adds alone decide that, so it breaks none after
--- more commits where these have nothing of the metadata and of the application.
-use Rattle.std.proofs.Common.{◌≡◌, ℕ, ◌+◌, ℤ, ◌<ℤ◌, int_lt, List, [], ◌∷◌, ◌++◌, map, Bool, true, false, ◌&&◌, ◌||◌, cond, bytes_eq, Option, Some, None, IfSome, is_none, option_map, option_and_then, if◌then◌else◌, refl, sym, ap, ap₂, ◌∙◌, subst, arith}
+-- Which rules an append breaks: its application's number, the protocol, the metadata and its adds alone decide that, so it breaks
+-- none after more commits where these have nothing of the protocol, of the metadata and of the application.
+use Rattle.std.proofs.Common.{◌≡◌, ℕ, ◌+◌, ℤ, ◌<ℤ◌, int_lt, List, [], ◌∷◌, ◌++◌, map, codes, Bool, true, false, ◌&&◌, ◌||◌, cond, bytes_eq, Option, Some, None, IfSome, is_none, option_map, option_and_then, if◌then◌else◌, refl, sym, ap, ap₂, ◌∙◌, subst, arith}
 use Rattle.std.specs.Int.{int_max}
 use Rattle.std.specs.List.{cons_option, filter_map, list_any}
 use Rattle.std.specs.Prelude.{◌+ℤ◌, pos}
@@ -17,16 +17,17 @@ use Rattle.action_types.specs.declared.actions.Info.{Info}
 use Rattle.action_types.specs.declared.actions.Meta.{Meta}
 use Rattle.action_types.specs.declared.actions.Protocol.{Protocol}
 use Rattle.action_types.specs.declared.actions.Txn.{Txn}
+use Rattle.action_types.specs.Files.{File}
 use Rattle.commit_timestamps.specs.Times.{end_of_time, next_time}
-use Rattle.conflict_rules.specs.Conflict.{Said, by_metadata, by_protocol, by_transaction, conflict_with, conflicts_of_files, conflicts_of_table, first_conflict, first_of, is_meta, is_protocol, is_txn_of, live_files}
+use Rattle.conflict_rules.specs.Conflict.{Said, at_key, by_domain, by_metadata, by_protocol, by_transaction, conflict_with, conflicts_of_files, conflicts_of_table, first_conflict, first_of, is_meta, is_protocol, is_txn_of, live_files}
 use Rattle.conflict_rules.specs.declared.clash.Rule.TheVariants as rule
 use Rattle.conflict_rules.specs.declared.intent.Intent.{Intent}
-use Rattle.least_names.specs.Least.{least}
+use Rattle.least_names.specs.Least.{least, least_file}
 use Rattle.reconcile.specs.Keys.{name_cmp}
 use Rattle.reconcile.specs.Replay.{Log, in_log, last_said, meta_of_log, meta_said, or_else, protocol_of_log, protocol_said, time_said, txn_at, txn_said}
 use Rattle.reconcile.proofs.Last.{last_said-append, or_else-none}
 use Rattle.reconcile.proofs.Named.{exact_names}
-use Rattle.table_rules.specs.Broken.{Before, after, append_only, broken_by, broken_files, broken_metadata, broken_start, changing_path, feature, invariants, is_append_only, late_app, late_for, new_meta, new_protocol, no_info, no_meta, not_after, not_live, not_live_path, number_at, other_columns, partition, property, recorded, txn_not_after, with_invariants, without_timestamps}
+use Rattle.table_rules.specs.Broken.{Before, after, append_only, at_file, broken_by, broken_contents, broken_files, broken_metadata, broken_start, changing_file, domain_named, feature, invariants, is_append_only, late_app, late_for, new_meta, new_protocol, no_info, no_meta, not_after, not_live, not_live_file, number_at, other_columns, partition, property, recorded, txn_not_after, untold_domain, untold_vector, with_invariants, without_timestamps, writers_have}
 use Rattle.table_rules.specs.Features.{faulty_feature}
 use Rattle.table_rules.specs.declared.broken.Broken.{Broken}
 use Rattle.table_rules.specs.declared.broken.Broken.TheVariants as broken
@@ -70,9 +71,14 @@ late : List ℕ → ℤ → Option ℤ → Option Broken
 late app number None = None
 late app number (Some last) = if int_lt last number then None else Some (broken.TxnNotAfter app last)
 
+-- what the protocol and the metadata allow of adds
+abbrev append_contents : Option Protocol → Option Meta → List Add → Option Broken
+append_contents protocol meta adds = or_else (partition meta (map action.Add adds)) (untold_vector protocol (map action.Add adds))
+
 -- the first rule but the one on time
-append_broken : Option Meta → Option ℤ → Txn → List Add → Option Broken
-append_broken meta number t adds = or_else (no_table meta) (or_else (late t.app t.number number) (partition meta (map action.Add adds)))
+append_broken : Option Protocol → Option Meta → Option ℤ → Txn → List Add → Option Broken
+append_broken protocol meta number t adds =
+    or_else (no_table meta) (or_else (late t.app t.number number) (append_contents protocol meta adds))
 
 both-missing : (b : Bool) (p : Option Protocol) (m : Option Meta) → p ≡ None
     → (if b && (is_none p || is_none m) then Some broken.NoMeta else None) ≡ (if b then Some broken.NoMeta else None)
@@ -94,9 +100,13 @@ columns-none : (old new : Option Meta) → new ≡ None → other_columns old ne
 columns-none None new h = refl
 columns-none (Some old) new h = ap (other_columns (Some old)) h
 
-unless-names : (b : Bool) (names : List (List ℕ)) → names ≡ [] → (if b then option_map broken.AppendOnly (least names) else None) ≡ None
-unless-names true names h = ap (λ l. option_map broken.AppendOnly (least l)) h
-unless-names false names h = refl
+unless-files : (b : Bool) (files : List File) → files ≡ [] → (if b then option_map (at_file broken.AppendOnly) (least_file files) else None) ≡ None
+unless-files true files h = ap (λ l. option_map (at_file broken.AppendOnly) (least_file l)) h
+unless-files false files h = refl
+
+unless-names : (b : Bool) (names : List (List ℕ)) → names ≡ [] → (if b then None else option_map broken.Domain (least names)) ≡ None
+unless-names true names h = refl
+unless-names false names h = ap (λ l. option_map broken.Domain (least l)) h
 
 pass : (a b : Option Broken) → a ≡ None → or_else a b ≡ b
 pass a b h = ap (λ o. or_else o b) h
@@ -123,16 +133,22 @@ module _ (table : Before) (i : Info) (t : Txn) (adds : List Add) where
       (unnamed (late_app table.number) (λ a. refl) adds)
       ∙ late-at table.number t (table.number t.app) refl
 
-  files : broken_files table (append i t adds) ≡ or_else (late t.app t.number (table.number t.app)) (partition table.meta (map action.Add adds))
+  contents : (protocol : Option Protocol) (meta : Option Meta) → broken_contents protocol meta (append i t adds) ≡ append_contents protocol meta adds
+  contents protocol meta =
+      pass (append_only protocol meta (append i t adds)) _
+      (unless-files (is_append_only protocol meta) (filter_map changing_file (append i t adds)) (unnamed changing_file (λ a. refl) adds))
+      ∙ ap (λ o. or_else (partition meta (append i t adds)) (or_else (untold_vector protocol (append i t adds)) o))
+      (unless-names (writers_have (codes "domainMetadata") protocol) (filter_map domain_named (append i t adds)) (unnamed domain_named (λ a. refl) adds))
+      ∙ ap (or_else (partition meta (append i t adds))) (or_else-none (untold_vector protocol (append i t adds)))
+
+  files : broken_files table (append i t adds) ≡ or_else (late t.app t.number (table.number t.app)) (append_contents table.protocol table.meta adds)
   files =
       ap₂ or_else numbers
-      (pass (not_live table.live (append i t adds)) _ (ap (λ l. option_map broken.NotLive (least l)) (unnamed (not_live_path table.live) (λ a. refl) adds))
-      ∙ pass (append_only (new_protocol table.protocol (append i t adds)) (new_meta table.meta (append i t adds)) (append i t adds)) _
-      (unless-names (is_append_only (new_protocol table.protocol (append i t adds)) (new_meta table.meta (append i t adds)))
-      (filter_map changing_path (append i t adds)) (unnamed changing_path (λ a. refl) adds))
-      ∙ ap (λ o. partition (or_else o table.meta) (append i t adds)) (no-metadata i t adds))
+      (pass (not_live table.live (append i t adds)) _ (ap (λ l. option_map (at_file broken.NotLive) (least_file l)) (unnamed (not_live_file table.live) (λ a. refl) adds))
+      ∙ contents (new_protocol table.protocol (append i t adds)) (new_meta table.meta (append i t adds))
+      ∙ ap₂ (λ p m. append_contents (or_else p table.protocol) (or_else m table.meta) adds) (no-protocol i t adds) (no-metadata i t adds))
 
-  breaks : table.time ≡ None → broken_by table (append i t adds) ≡ append_broken table.meta (table.number t.app) t adds
+  breaks : table.time ≡ None → broken_by table (append i t adds) ≡ append_broken table.protocol table.meta (table.number t.app) t adds
   unfolding append_broken
   breaks timeless = ap₂ or_else (start timeless) (pass (broken_metadata table (append i t adds)) _ metadata ∙ files)
 
@@ -144,12 +160,12 @@ lt-true a b h false e = absurd (omega (arith, ints))
 
 module _ (intent : Intent) where
   by-time : (table : Before) (id : ℕ) (time : ℤ)
-      → broken_by (without_time table) (composed_append intent id time) ≡ append_broken table.meta (table.number intent.app) (txn_for intent) (adds_in_order intent.adds)
+      → broken_by (without_time table) (composed_append intent id time) ≡ append_broken table.protocol table.meta (table.number intent.app) (txn_for intent) (adds_in_order intent.adds)
   unfolding composed_append
   by-time table id time = breaks (without_time table) (info_for id time) (txn_for intent) (adds_in_order intent.adds) refl
 
   by-both : (table : Before) (id : ℕ) (time : ℤ)
-      → broken_by (without_numbers (without_time table)) (composed_append intent id time) ≡ append_broken table.meta None (txn_for intent) (adds_in_order intent.adds)
+      → broken_by (without_numbers (without_time table)) (composed_append intent id time) ≡ append_broken table.protocol table.meta None (txn_for intent) (adds_in_order intent.adds)
   unfolding composed_append
   by-both table id time = breaks (without_numbers (without_time table)) (info_for id time) (txn_for intent) (adds_in_order intent.adds) refl
 
@@ -158,22 +174,28 @@ module _ (intent : Intent) where
   unfolding composed_append
   append-time id time = its-time (info_for id time) (txn_for intent) (adds_in_order intent.adds)
 
-  -- but for the rule on time, an append breaks the same rule after two logs that agree on the metadata and on its application's number
-  pub same-rules : (a b : Log) (id id' : ℕ) (time time' : ℤ) → meta_of_log a ≡ meta_of_log b → number_at intent.app a ≡ number_at intent.app b
-      → broken_but_time a (composed_append intent id time) ≡ broken_but_time b (composed_append intent id' time')
-  same-rules a b id id' time time' m n =
-      by-time (after a) id time ∙ ap₂ (λ meta number. append_broken meta number (txn_for intent) (adds_in_order intent.adds)) m n ∙ sym (by-time (after b) id' time')
+  -- but for the rule on time, an append breaks the same rule after two logs that agree on the protocol, on the metadata and on its
+  -- application's number
+  pub same-rules : (a b : Log) (id id' : ℕ) (time time' : ℤ) → protocol_of_log a ≡ protocol_of_log b → meta_of_log a ≡ meta_of_log b
+      → number_at intent.app a ≡ number_at intent.app b → broken_but_time a (composed_append intent id time) ≡ broken_but_time b (composed_append intent id' time')
+  same-rules a b id id' time time' p m n =
+      by-time (after a) id time
+      ∙ ap₂ (λ meta number. append_broken (protocol_of_log a) meta number (txn_for intent) (adds_in_order intent.adds)) m n
+      ∙ ap (λ protocol. append_broken protocol (meta_of_log b) (number_at intent.app b) (txn_for intent) (adds_in_order intent.adds)) p
+      ∙ sym (by-time (after b) id' time')
 
   -- its id and its time do not matter
   pub same-at-any-time : (table : Before) (id id' : ℕ) (time time' : ℤ)
       → broken_by (without_time table) (composed_append intent id time) ≡ broken_by (without_time table) (composed_append intent id' time')
   same-at-any-time table id id' time time' = by-time table id time ∙ sym (by-time table id' time')
 
-  -- but for the rules on time and numbers, the metadata alone matters
-  pub same-rules-of-metadata : (a b : Log) (id id' : ℕ) (time time' : ℤ) → meta_of_log a ≡ meta_of_log b
+  -- but for the rules on time and numbers, the protocol and the metadata alone matter
+  pub same-rules-of-table : (a b : Log) (id id' : ℕ) (time time' : ℤ) → protocol_of_log a ≡ protocol_of_log b → meta_of_log a ≡ meta_of_log b
       → broken_but_time_and_number a (composed_append intent id time) ≡ broken_but_time_and_number b (composed_append intent id' time')
-  same-rules-of-metadata a b id id' time time' m =
-      by-both (after a) id time ∙ ap (λ meta. append_broken meta None (txn_for intent) (adds_in_order intent.adds)) m ∙ sym (by-both (after b) id' time')
+  same-rules-of-table a b id id' time time' p m =
+      by-both (after a) id time
+      ∙ ap₂ (λ protocol meta. append_broken protocol meta None (txn_for intent) (adds_in_order intent.adds)) p m
+      ∙ sym (by-both (after b) id' time')
 
   not-late : (n : Option ℤ) → IfSome n (λ last. last <ℤ intent.number) → late intent.app intent.number n ≡ None
   unfolding late
@@ -186,7 +208,7 @@ module _ (intent : Intent) where
   unfolding append_broken late
   same-above-number log id time h =
       by-time (after log) id time
-      ∙ ap (λ o. or_else (no_table (meta_of_log log)) (or_else o (partition (meta_of_log log) (map action.Add (adds_in_order intent.adds)))))
+      ∙ ap (λ o. or_else (no_table (meta_of_log log)) (or_else o (append_contents (protocol_of_log log) (meta_of_log log) (adds_in_order intent.adds))))
       (not-late (number_at intent.app log) h)
       ∙ sym (by-both (after log) id time)
 
@@ -254,6 +276,7 @@ no-protocol-in (action.Info a) h = refl
 no-protocol-in (action.Protocol a) h = cc
 no-protocol-in (action.Meta a) h = refl
 no-protocol-in (action.Txn a) h = refl
+no-protocol-in (action.Domain a) h = refl
 no-protocol-in (action.Remove a) h = refl
 no-protocol-in (action.Add a) h = refl
 
@@ -262,6 +285,7 @@ no-meta-in (action.Info a) h = refl
 no-meta-in (action.Protocol a) h = refl
 no-meta-in (action.Meta a) h = cc
 no-meta-in (action.Txn a) h = refl
+no-meta-in (action.Domain a) h = refl
 no-meta-in (action.Remove a) h = refl
 no-meta-in (action.Add a) h = refl
 
@@ -275,6 +299,7 @@ no-txn-in app (action.Info a) h = refl
 no-txn-in app (action.Protocol a) h = refl
 no-txn-in app (action.Meta a) h = refl
 no-txn-in app (action.Txn t) h = other-app app t (name_cmp app t.app) refl h
+no-txn-in app (action.Domain a) h = refl
 no-txn-in app (action.Remove a) h = refl
 no-txn-in app (action.Add a) h = refl
 
@@ -286,13 +311,13 @@ record Leaves (intent : Intent) (winner : List Action) : Type 0 where
 
 leaves : (intent : Intent) (base : Log) (winner : List Action) → conflict_with intent base winner ≡ None → Leaves intent winner
 leaves intent base winner h =
-    let table = (or-none (conflicts_of_table intent winner) (conflicts_of_files intent (live_files base) winner) h).0 in
+    let table = (or-none (conflicts_of_table intent winner) (or_else (conflicts_of_files intent (live_files base) winner) (by_domain intent.domains winner)) h).0 in
     let first = or-none (by_protocol winner) (or_else (by_metadata winner) (by_transaction intent.app winner)) table in
     let second = or-none (by_metadata winner) (by_transaction intent.app winner) first.1 in
     record {
-      protocol = quiet is_protocol protocol_said no-protocol-in winner (named-none (list_any is_protocol winner) (rule.Protocol, []) first.0);
-      meta = quiet is_meta meta_said no-meta-in winner (named-none (list_any is_meta winner) (rule.Metadata, []) second.0);
-      txn = quiet (is_txn_of intent.app) (txn_said intent.app) (no-txn-in intent.app) winner (named-none (list_any (is_txn_of intent.app) winner) (rule.Transaction, intent.app) second.1);
+      protocol = quiet is_protocol protocol_said no-protocol-in winner (named-none (list_any is_protocol winner) (at_key rule.Protocol []) first.0);
+      meta = quiet is_meta meta_said no-meta-in winner (named-none (list_any is_meta winner) (at_key rule.Metadata []) second.0);
+      txn = quiet (is_txn_of intent.app) (txn_said intent.app) (no-txn-in intent.app) winner (named-none (list_any (is_txn_of intent.app) winner) (at_key rule.Transaction intent.app) second.1);
     }
 
 -- ..  nor do all the winners
@@ -324,4 +349,4 @@ module _ (intent : Intent) (base : Log) (version : ℕ) (log winners : Log) (cle
   -- so an append breaks the same rule after them, but for the one on time
   pub same-after-winners : (id id' : ℕ) (time time' : ℤ)
       → broken_but_time (log ++ winners) (composed_append intent id time) ≡ broken_but_time log (composed_append intent id' time')
-  same-after-winners id id' time time' = same-rules intent (log ++ winners) log id id' time time' same-meta same-number
+  same-after-winners id id' time time' = same-rules intent (log ++ winners) log id id' time time' same-protocol same-meta same-number

@@ -1,5 +1,5 @@
 -- What a create and an append compose is a commit.
-use Rattle.std.proofs.Common.{◌≡◌, ℕ, ℤ, pos, ◌≤ℤ◌, int_lt, not, arith, List, [], ◌∷◌, ◌++◌, map, Bool, true, false, ◌&&◌, bytes_eq, Some, is_some, codes, refl, sym, ap, ap₂, subst, append_assoc}
+use Rattle.std.proofs.Common.{◌≡◌, ℕ, ℤ, pos, ◌≤ℤ◌, int_lt, not, arith, List, [], ◌∷◌, ◌++◌, map, Bool, true, false, ◌&&◌, Some, is_some, codes, refl, sym, ap, ap₂, subst, append_assoc}
 use Rattle.std.specs.List.{AllByRecursion, list_all, list_any}
 use Rattle.std.specs.List.Sorted.{IsStrictlySortedBy}
 use Rattle.std.specs.declared.cmp.Ordering.TheVariants.{Less}
@@ -12,16 +12,16 @@ use Rattle.action_types.specs.declared.actions.Info.{Info}
 use Rattle.action_types.specs.declared.actions.Protocol.{Protocol}
 use Rattle.action_types.specs.declared.actions.Meta.{Meta}
 use Rattle.action_types.specs.declared.actions.Txn.{Txn}
+use Rattle.action_types.specs.Files.{File, file_cmp, file_of_add, same_file}
 use Rattle.action_fields.specs.Valid.{are_texts, has_valid_fields, is_from_zero, is_valid_meta}
 use Rattle.table_rules.specs.Broken.{timestamps_property}
 use Rattle.conflict_rules.specs.declared.intent.Intent.{Intent}
-use Rattle.reconcile.specs.Keys.{name_cmp}
 use Rattle.staged_commit.specs.Adds.{adds_in_order}
 use Rattle.staged_commit.specs.Composed.{IsAppend, IsCreate, composed_append, composed_create, info_for, meta_for, protocol_for, txn_for}
 use Rattle.staged_commit.specs.Names.{with_pair}
 use Rattle.staged_commit.specs.declared.create.Create.{Create}
 use Rattle.action_json.specs.Commit.{IsCommit, are_new, double_of, if_some, mentions}
-use Rattle.staged_commit.proofs.InOrder.{Rising, all-in-order, apart, path_of, rising-in-order}
+use Rattle.staged_commit.proofs.InOrder.{Rising, all-in-order, apart, rising-in-order}
 
 tested : (now : ℤ) (t : Bool) → int_lt now (pos 0) ≡ t → pos 0 ≤ℤ now → not (int_lt now (pos 0)) ≡ true
 tested now true e h = absurd (omega (arith, ints))
@@ -48,18 +48,18 @@ composed-commit create id now h v = three (info_for id now) (protocol_for create
 
 -- ---- appends
 
--- the path of an add is none of those before it, where they rise
-between : (p : List ℕ) (front : List Add) (a : Add) (more : List Add) → AllByRecursion (λ q. name_cmp p q ≡ Less) (map path_of (front ++ a ∷ more))
-    → name_cmp p a.path ≡ Less
-between p [] a more h = h.0
-between p (b ∷ front) a more h = between p front a more h.1
+-- the file of an add is none of those before it, where they rise
+between : (f : File) (front : List Add) (a : Add) (more : List Add) → AllByRecursion (λ q. file_cmp f q ≡ Less) (map file_of_add (front ++ a ∷ more))
+    → file_cmp f (file_of_add a) ≡ Less
+between f [] a more h = h.0
+between f (b ∷ front) a more h = between f front a more h.1
 
-unmentioned : (done : List Add) (a : Add) (more : List Add) → Rising (done ++ a ∷ more) → list_any (mentions a.path) (map action.Add done) ≡ false
+unmentioned : (done : List Add) (a : Add) (more : List Add) → Rising (done ++ a ∷ more) → list_any (mentions (file_of_add a)) (map action.Add done) ≡ false
 unfolding IsStrictlySortedBy
 unmentioned [] a more r = refl
 unmentioned (d ∷ done) a more r =
-    or_from (bytes_eq d.path a.path) (list_any (mentions a.path) (map action.Add done))
-    (apart d.path a.path (between d.path done a more r.0)) (unmentioned done a more r.1)
+    or_from (same_file (file_of_add d) (file_of_add a)) (list_any (mentions (file_of_add a)) (map action.Add done))
+    (apart (file_of_add d) (file_of_add a) (between (file_of_add d) done a more r.0)) (unmentioned done a more r.1)
 
 push-add : (done : List Add) (a : Add) → map action.Add (done ++ a ∷ []) ≡ map action.Add done ++ action.Add a ∷ []
 push-add [] a = refl
@@ -72,7 +72,7 @@ unfolding double_of
 adds-stand i t done [] r v = refl
 adds-stand i t done (a ∷ more) r v =
     let valid = and_parts (has_valid_fields (action.Add a)) (list_all (λ b. has_valid_fields (action.Add b)) more) v in
-    let single : not (is_some (if_some (list_any (mentions a.path) (map action.Add done)) a.path)) ≡ true =
+    let single : not (is_some (if_some (list_any (mentions (file_of_add a)) (map action.Add done)) a.path)) ≡ true =
     ap (λ b. not (is_some (if_some b a.path))) (unmentioned done a more r) in
     let rest : are_new (action.Info i ∷ action.Txn t ∷ map action.Add (done ++ a ∷ [])) (map action.Add more) ≡ true =
     adds-stand i t (done ++ a ∷ []) more (subst Rising (sym (append_assoc done (a ∷ []) more)) r) valid.1 in
@@ -89,5 +89,5 @@ pub append-commit : (intent : Intent) (id : ℕ) (time : ℤ) → pos 0 ≤ℤ t
 unfolding composed_append
 append-commit intent id time h v =
     append-of (info_for id time) (txn_for intent) (adds_in_order intent.adds) (from_zero time h)
-    (adds-stand (info_for id time) (txn_for intent) [] (adds_in_order intent.adds) (rising-in-order intent.adds v.paths)
+    (adds-stand (info_for id time) (txn_for intent) [] (adds_in_order intent.adds) (rising-in-order intent.adds v.files)
     (all-in-order (λ a. has_valid_fields (action.Add a)) intent.adds v.fields))

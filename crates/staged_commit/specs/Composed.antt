@@ -17,7 +17,7 @@ use Rattle.log_names.specs.Texts.{uuid_text}
 use Rattle.table_rules.specs.Texts.{names_have}
 use Rattle.table_rules.specs.Features.{shared_features}
 use Rattle.table_rules.specs.Broken.{timestamps_property}
-use Rattle.staged_commit.specs.Adds.{adds_in_order, have_own_paths}
+use Rattle.staged_commit.specs.Adds.{adds_in_order, have_own_files}
 use Rattle.staged_commit.specs.Names.{with_name, in_order, with_pair}
 use Rattle.staged_commit.specs.declared.create.Create.{Create}
 
@@ -77,11 +77,12 @@ unfoldable pub composed_append : Intent → ℕ → ℤ → List Action
 composed_append intent id time =
     action.Info (info_for id time) ∷ action.Txn (txn_for intent) ∷ map action.Add (adds_in_order intent.adds)
 
--- A write that has read nothing, removes nothing and changes no metadata, of files whose fields a commit may have and whose
--- paths are their own. Other writes are not composed yet.
+-- A write that has read nothing, removes nothing, changes no metadata and no domain, of files whose fields a commit may have and
+-- of which none stands twice. Other writes are not composed yet.
 pub record IsAppend (intent : Intent) : Type 0 where
   pub reads : intent.reads ≡ reads.None
   pub removes : intent.removes ≡ []
+  pub domains : intent.domains ≡ []
   pub change : intent.change ≡ None
   pub fields : list_all (λ a. has_valid_fields (action.Add a)) intent.adds ≡ true
-  pub paths : have_own_paths intent.adds ≡ true
+  pub files : have_own_files intent.adds ≡ true

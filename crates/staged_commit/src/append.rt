@@ -1,6 +1,7 @@
 //! What an append composes.
 ghost use Rattle.std.specs.Prelude.{◌≡◌, pos, ◌≤ℤ◌, ◌<ℤ◌, ◌∷◌, [], ◌++◌, map, IfErr, IfOk, OnOk};
 ghost use Rattle.action_types.specs.declared.actions.Action.TheVariants as act;
+ghost use Rattle.action_types.specs.Files.{file_of_add};
 ghost use Rattle.commit_timestamps.specs.Times.{next_time as time_after};
 ghost use Rattle.reconcile.specs.Replay.{Log};
 ghost use Rattle.reconcile.specs.Standing.{StandsFor};
@@ -14,7 +15,7 @@ ghost use Rattle.staged_commit.specs.Rules.{without_time};
 
 use crate::commit::{Composed, info_at, judged, written};
 use crate::fault::ComposeError;
-use action_types::{Action, Add, Name, Txn};
+use action_types::{Action, Add, Txn};
 use commit_timestamps::next_time;
 use conflict_rules::Intent;
 use reconcile::State;
@@ -144,7 +145,7 @@ fn txn_of(intent: &Intent) -> Result<Txn, AllocError>
     })
 }
 
-/// The files in byte order of their paths.
+/// The adds in the order of their files.
 fn in_order<'a>(alloc: Global, adds: &'a [Add]) -> Result<Vec<&'a Add>, AllocError>
     ensures { IfOk result (λ v. map (λ a. a.now) v.items ≡ adds_in_order adds.now) }
 {
@@ -155,23 +156,30 @@ fn in_order<'a>(alloc: Global, adds: &'a [Add]) -> Result<Vec<&'a Add>, AllocErr
     Ok(list)
 }
 
-/// Puts a file before the first one of a later path.
+/// Puts an add before the first one of a later file.
 fn put<'a>(list: &mut Vec<&'a Add>, add: &'a Add) -> Result<(), AllocError>
     ensures { OnOk result (map (λ a. a.now) list.new.items ≡ with_add add.now (map (λ a. a.now) list.old.items)) }
 {
-    list.insert(place_of(list.as_slice(), &add.path), add)?;
+    list.insert(place_of(list.as_slice(), add), add)?;
     Ok(())
 }
 
-/// The place of the first file of a later path, or the number of files.
-fn place_of(list: &[&Add], path: &Name) -> usize
-    ensures { result ≡ position_or_len (λ a. is_after path.now a.now) list.now }
+/// The place of the first add of a later file, or the number of adds.
+fn place_of(list: &[&Add], add: &Add) -> usize
+    ensures { result ≡ position_or_len (λ a. is_after (file_of_add add.now) a.now) list.now }
 {
-    first_after(list, path).unwrap_or(list.len())
+    first_after(list, add).unwrap_or(list.len())
 }
 
-fn first_after(list: &[&Add], path: &Name) -> Option<usize>
-    ensures { result ≡ position (λ a. is_after path.now a.now) list.now }
+fn first_after(list: &[&Add], add: &Add) -> Option<usize>
+    ensures { result ≡ position (λ a. is_after (file_of_add add.now) a.now) list.now }
 {
-    list.iter().position(|other| *path < other.path)
+    list.iter().position(|other| is_before(add, other))
+}
+
+/// Whether the file of an add is before that of another.
+fn is_before(add: &Add, other: &Add) -> bool
+    ensures { result ≡ is_after (file_of_add add.now) other.now }
+{
+    add.key().compare(other.key()).is_lt()
 }

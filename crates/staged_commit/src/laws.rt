@@ -4,13 +4,14 @@ ghost use Rattle.action_types.specs.declared.actions.Add.{Add};
 ghost use Rattle.conflict_rules.specs.Conflict.{first_conflict};
 ghost use Rattle.conflict_rules.specs.declared.intent.Intent.{Intent};
 ghost use Rattle.reconcile.specs.Replay.{Log};
-ghost use Rattle.staged_commit.specs.Adds.{IsInOrder, adds_in_order, have_own_paths};
+ghost use Rattle.staged_commit.specs.Adds.{IsInOrder, adds_in_order, have_own_files};
 ghost use Rattle.staged_commit.specs.Composed.{composed_append};
 ghost use Rattle.staged_commit.specs.Rules.{broken_but_time};
 
-/// A law: files with paths of their own that are put in order are the same files, and each path is below the next in byte order.
+/// A law: adds of which no file stands twice are the same adds in order, and there each file is below the next: by path, under one
+/// path the one without a deletion vector first, then by the bytes of the vectors' unique ids.
 pub fn files_stand_in_order()
-    ensures { (adds : List Add) → have_own_paths adds ≡ true → IsInOrder adds (adds_in_order adds) }
+    ensures { (adds : List Add) → have_own_files adds ≡ true → IsInOrder adds (adds_in_order adds) }
 {}
 
 /// A law: an append that breaks no rule after a log, but for the one on time, breaks none after more commits of which none

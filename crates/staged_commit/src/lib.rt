@@ -9,7 +9,7 @@ mod laws;
 
 pub use append::compose;
 pub use commit::Composed;
-pub use conflict_rules::{Adds, Change, Intent, Level, Reads, Removes};
+pub use conflict_rules::{Adds, Change, Domains, Intent, Level, Reads, Removes};
 pub use create::{Create, compose_create};
 pub use fault::ComposeError;
 pub use laws::{an_append_stays_within_the_rules, files_stand_in_order};

@@ -9,7 +9,7 @@ use Rattle.table_rules.specs.Seen.{seen}
 
 pub seen-after : (state : State) (log : Log) → StandsFor state log → seen state ≡ after log
 seen-after state log h = λ i. record {
-  live = λ key. h.table.live key i;
+  live = λ file. h.table.live file i;
   number = λ app. option_map (λ (t : Txn). t.number) (h.table.txn app i);
   protocol = h.table.protocol i;
   meta = h.table.meta i;

@@ -1,5 +1,5 @@
 -- The first rule that a next commit breaks.
-use Rattle.std.specs.Prelude.{◌≡◌, Result, Ok, Err, ℕ, ℤ, List, [], ◌∷◌, ◌&&◌, ◌||◌, Bool, false, Option, Some, None, if◌then◌else◌, codes, option_and_then, option_map, is_none, int_lt}
+use Rattle.std.specs.Prelude.{◌≡◌, Result, Ok, Err, ℕ, ℤ, List, [], ◌∷◌, ◌&&◌, ◌||◌, Bool, false, Option, Some, None, if◌then◌else◌, codes, option_and_then, option_map, is_none, is_some, int_lt}
 use Rattle.std.specs.List.{filter_map}
 use Rattle.std.specs.Str.{bytes_eq}
 use Rattle.std.specs.Cmp.Lexicographic.{pointwise}
@@ -9,8 +9,8 @@ use Rattle.action_types.specs.declared.actions.Add.{Add}
 use Rattle.action_types.specs.declared.actions.Meta.{Meta}
 use Rattle.action_types.specs.declared.actions.Protocol.{Protocol}
 use Rattle.action_types.specs.declared.actions.Txn.{Txn}
-use Rattle.least_names.specs.Least.{least}
-use Rattle.reconcile.specs.Keys.{Key, key_of_remove}
+use Rattle.action_types.specs.Files.{File, file_of_add, file_of_remove}
+use Rattle.least_names.specs.Least.{least, least_file}
 use Rattle.reconcile.specs.Replay.{Log, or_else, last_said, live_at, txn_at, protocol_of_log, meta_of_log, time_of_log, protocol_said, meta_said, time_said}
 use Rattle.table_rules.specs.Texts.{names_have, listed, pairs_are_of, pairs_have, contains_text}
 use Rattle.table_rules.specs.Features.{faulty_feature}
@@ -19,7 +19,7 @@ use Rattle.table_rules.specs.declared.broken.Broken.TheVariants as broken
 
 -- what the rules look at of the table before the commit
 pub record Before : Type 0 where
-  pub live : Key → Option Add
+  pub live : File → Option Add
   pub number : List ℕ → Option ℤ
   pub protocol : Option Protocol
   pub meta : Option Meta
@@ -32,7 +32,7 @@ number_at app log = option_map (λ (t : Txn). t.number) (txn_at app log)
 -- the table after a list of commits
 abbrev pub after : Log → Before
 after log = record {
-  live = λ key. live_at key log;
+  live = λ file. live_at file log;
   number = λ app. number_at app log;
   protocol = protocol_of_log log;
   meta = meta_of_log log;
@@ -118,45 +118,72 @@ recorded number app = option_map (broken.TxnNotAfter app) (number app)
 abbrev pub txn_not_after : (List ℕ → Option ℤ) → List Action → Option Broken
 txn_not_after number actions = option_and_then (recorded number) (least (filter_map (late_app number) actions))
 
+-- what names a file: its path, and the unique id of its deletion vector, where it has one
+abbrev pub at_file : (List ℕ → Option (List ℕ) → Broken) → File → Broken
+at_file rule file = rule file.path file.id
+
 -- a removed file is not live
-abbrev pub not_live_path : (Key → Option Add) → Action → Option (List ℕ)
-not_live_path live (action.Remove r) = if is_none (live (key_of_remove r)) then Some r.path else None
-not_live_path live _ = None
+abbrev pub not_live_file : (File → Option Add) → Action → Option File
+not_live_file live (action.Remove r) = if is_none (live (file_of_remove r)) then Some (file_of_remove r) else None
+not_live_file live _ = None
 
-abbrev pub not_live : (Key → Option Add) → List Action → Option Broken
-not_live live actions = option_map broken.NotLive (least (filter_map (not_live_path live) actions))
+abbrev pub not_live : (File → Option Add) → List Action → Option Broken
+not_live live actions = option_map (at_file broken.NotLive) (least_file (filter_map (not_live_file live) actions))
 
--- the table is append-only with the commit, and a remove changes data
-abbrev pub has_feature : List ℕ → Option Protocol → Bool
-has_feature name None = false
-has_feature name (Some p) = names_have (listed p.writer_features) name
+-- a feature that readers, or writers, are told of
+abbrev pub readers_have : List ℕ → Option Protocol → Bool
+readers_have name None = false
+readers_have name (Some p) = names_have (listed p.reader_features) name
+
+abbrev pub writers_have : List ℕ → Option Protocol → Bool
+writers_have name None = false
+writers_have name (Some p) = names_have (listed p.writer_features) name
 
 abbrev pub has_property : List ℕ → Option Meta → Bool
 has_property name None = false
 has_property name (Some m) = pairs_have m.configuration name (codes "true")
 
+-- the table is append-only with the commit, and a remove changes data
 abbrev pub is_append_only : Option Protocol → Option Meta → Bool
-is_append_only protocol meta = has_feature (codes "appendOnly") protocol && has_property (codes "delta.appendOnly") meta
+is_append_only protocol meta = writers_have (codes "appendOnly") protocol && has_property (codes "delta.appendOnly") meta
 
-abbrev pub changing_path : Action → Option (List ℕ)
-changing_path (action.Remove r) = if r.change then Some r.path else None
-changing_path _ = None
+abbrev pub changing_file : Action → Option File
+changing_file (action.Remove r) = if r.change then Some (file_of_remove r) else None
+changing_file _ = None
 
 abbrev pub append_only : Option Protocol → Option Meta → List Action → Option Broken
 append_only protocol meta actions =
-    if is_append_only protocol meta then option_map broken.AppendOnly (least (filter_map changing_path actions)) else None
+    if is_append_only protocol meta then option_map (at_file broken.AppendOnly) (least_file (filter_map changing_file actions)) else None
 
 -- the names of an add's partition values are not exactly the new partition columns
 abbrev pub columns_of : Option Meta → List (List ℕ)
 columns_of None = []
 columns_of (Some m) = m.columns
 
-abbrev pub other_partition : List (List ℕ) → Action → Option (List ℕ)
-other_partition columns (action.Add a) = if pairs_are_of a.values columns then None else Some a.path
+abbrev pub other_partition : List (List ℕ) → Action → Option File
+other_partition columns (action.Add a) = if pairs_are_of a.values columns then None else Some (file_of_add a)
 other_partition columns _ = None
 
 abbrev pub partition : Option Meta → List Action → Option Broken
-partition meta actions = option_map broken.Partition (least (filter_map (other_partition (columns_of meta)) actions))
+partition meta actions = option_map (at_file broken.Partition) (least_file (filter_map (other_partition (columns_of meta)) actions))
+
+-- an added file has a deletion vector, of which the new protocol does not tell readers
+abbrev pub marked_file : Action → Option File
+marked_file (action.Add a) = if is_some a.vector then Some (file_of_add a) else None
+marked_file _ = None
+
+abbrev pub untold_vector : Option Protocol → List Action → Option Broken
+untold_vector protocol actions =
+    if readers_have (codes "deletionVectors") protocol then None else option_map (at_file broken.Vector) (least_file (filter_map marked_file actions))
+
+-- the commit has metadata of a domain, of which the new protocol does not tell writers
+abbrev pub domain_named : Action → Option (List ℕ)
+domain_named (action.Domain d) = Some d.domain
+domain_named _ = None
+
+abbrev pub untold_domain : Option Protocol → List Action → Option Broken
+untold_domain protocol actions =
+    if writers_have (codes "domainMetadata") protocol then None else option_map broken.Domain (least (filter_map domain_named actions))
 
 -- ---- the first broken rule, in their order
 
@@ -168,12 +195,19 @@ abbrev pub broken_metadata : Before → List Action → Option Broken
 broken_metadata table actions =
     or_else (feature actions) (or_else (property actions) (or_else (invariants actions) (columns table.meta actions)))
 
+-- those on what the new protocol and the new metadata allow
+abbrev pub broken_contents : Option Protocol → Option Meta → List Action → Option Broken
+broken_contents protocol meta actions =
+    or_else (append_only protocol meta actions)
+    (or_else (partition meta actions)
+    (or_else (untold_vector protocol actions)
+    (untold_domain protocol actions)))
+
 abbrev pub broken_files : Before → List Action → Option Broken
 broken_files table actions =
     or_else (txn_not_after table.number actions)
     (or_else (not_live table.live actions)
-    (or_else (append_only (new_protocol table.protocol actions) (new_meta table.meta actions) actions)
-    (partition (new_meta table.meta actions) actions)))
+    (broken_contents (new_protocol table.protocol actions) (new_meta table.meta actions) actions))
 
 abbrev pub broken_by : Before → List Action → Option Broken
 broken_by table actions =

@@ -9,11 +9,11 @@ use Rattle.table_rules.specs.Texts.{names_have, listed}
 
 -- the features of readers and writers
 abbrev pub shared_features : List (List ℕ)
-shared_features = codes "catalogManaged" ∷ codes "v2Checkpoint" ∷ codes "vacuumProtocolCheck" ∷ []
+shared_features = codes "catalogManaged" ∷ codes "deletionVectors" ∷ codes "v2Checkpoint" ∷ codes "vacuumProtocolCheck" ∷ []
 
 -- those of writers alone
 abbrev pub writer_features : List (List ℕ)
-writer_features = codes "inCommitTimestamp" ∷ codes "appendOnly" ∷ codes "invariants" ∷ []
+writer_features = codes "inCommitTimestamp" ∷ codes "appendOnly" ∷ codes "invariants" ∷ codes "domainMetadata" ∷ []
 
 -- those that every table has
 abbrev pub needed_features : List (List ℕ)

@@ -3,7 +3,9 @@ use std::alloc::AllocError;
 
 /// The first rule that a commit breaks as the next one of a table.
 ///
-/// Where several paths, applications or properties break a rule, the least in byte order is named.
+/// Where several applications or domains break a rule, the least in byte order is named; where several files do,
+/// the least in their order: by path, under one path the file without a deletion vector first, then by the bytes of
+/// the vector's unique id. A file is named by its path, and by the unique id of its vector where it has one.
 #[derive(PartialEq, Eq, Debug, Drop)]
 pub enum Broken {
     /// The first action is no commitInfo.
@@ -23,11 +25,15 @@ pub enum Broken {
     /// A txn's number is at most the recorded one of its application.
     TxnNotAfter { app: Name, recorded: i64 },
     /// A removed file is not live.
-    NotLive { path: Name },
+    NotLive { path: Name, vector: Option<Name> },
     /// The table is append-only, and a remove changes data.
-    AppendOnly { path: Name },
+    AppendOnly { path: Name, vector: Option<Name> },
     /// The partition values of an added file are not those of the partition columns.
-    Partition { path: Name },
+    Partition { path: Name, vector: Option<Name> },
+    /// An added file has a deletion vector, and readers are not told of the feature `deletionVectors`.
+    Vector { path: Name, vector: Option<Name> },
+    /// The commit has metadata of a domain, and writers are not told of the feature `domainMetadata`.
+    Domain { domain: Name },
     /// There is no memory; no rule is named.
     Memory,
 }

@@ -47,14 +47,26 @@ pub(crate) fn listed(names: &Option<Names>) -> &[Name]
 fn is_shared(name: &str) -> bool
     ensures { result ≡ names_have shared_features name.now }
 {
-    ["catalogManaged", "v2Checkpoint", "vacuumProtocolCheck"].contains(&name)
+    [
+        "catalogManaged",
+        "deletionVectors",
+        "v2Checkpoint",
+        "vacuumProtocolCheck",
+    ]
+    .contains(&name)
 }
 
 /// Whether writers alone may list the feature.
 fn is_of_writers(name: &str) -> bool
     ensures { result ≡ names_have writer_features name.now }
 {
-    ["inCommitTimestamp", "appendOnly", "invariants"].contains(&name)
+    [
+        "inCommitTimestamp",
+        "appendOnly",
+        "invariants",
+        "domainMetadata",
+    ]
+    .contains(&name)
 }
 
 /// The first feature of readers that is not known.
@@ -94,6 +106,8 @@ fn one_sided(readers: &[Name], writers: &[Name]) -> Option<&'static str>
 {
     if in_one_list(readers, writers, "catalogManaged") {
         Some("catalogManaged")
+    } else if in_one_list(readers, writers, "deletionVectors") {
+        Some("deletionVectors")
     } else if in_one_list(readers, writers, "v2Checkpoint") {
         Some("v2Checkpoint")
     } else if in_one_list(readers, writers, "vacuumProtocolCheck") {

@@ -1,7 +1,7 @@
 //! The rules of a next commit of a table: which one a commit breaks first, if any.
 //!
-//! They are the demands of the Delta protocol on a commit (in-commit timestamps, table features,
-//! append-only tables, transaction identifiers), narrowed to what this project's tables have.
+//! They are the demands of the Delta protocol on a commit (in-commit timestamps, table features, append-only
+//! tables, transaction identifiers, deletion vectors, domain metadata), narrowed to what this project's tables have.
 #![tactic(auto)]
 
 ghost use Rattle.std.specs.Prelude.{[]};
@@ -11,6 +11,7 @@ ghost use Rattle.table_rules.specs.Broken.{first_broken, broken_by, Tells};
 ghost use Rattle.table_rules.specs.Seen.{seen};
 
 mod broken;
+mod contents;
 mod features;
 mod lookups;
 mod next;

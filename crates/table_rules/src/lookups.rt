@@ -1,16 +1,17 @@
 //! The rules of a next commit that look into the table.
 
-ghost use Rattle.std.specs.Prelude.{◌≡◌};
+ghost use Rattle.std.specs.Prelude.{◌≡◌, option_map};
 ghost use Rattle.std.specs.List.{filter_map};
 ghost use Rattle.std.specs.Option.{option_copied};
-ghost use Rattle.least_names.specs.Least.{least};
+ghost use Rattle.action_types.specs.Files.{file_of_key};
+ghost use Rattle.least_names.specs.Least.{least, least_file};
 ghost use Rattle.reconcile.specs.Standing.{live_in};
-ghost use Rattle.table_rules.specs.Broken.{Tells, late_app, txn_not_after, not_live_path, not_live};
+ghost use Rattle.table_rules.specs.Broken.{Tells, late_app, txn_not_after, not_live_file, not_live};
 ghost use Rattle.table_rules.specs.Seen.{number_in};
 
 use crate::Broken;
-use action_types::{Action, Name};
-use least_names::lesser;
+use action_types::{Action, Key, Name};
+use least_names::{lesser, lesser_file};
 use reconcile::State;
 use std::alloc::Global;
 
@@ -53,26 +54,25 @@ pub(crate) fn check_txns(alloc: Global, state: &State, actions: &[Action]) -> Re
     Ok(())
 }
 
-/// The path of a remove whose file is not live.
-fn not_live_path<'a>(state: &State, action: &'a Action) -> Option<&'a str>
-    ensures { option_copied result ≡ not_live_path (live_in state.now) action.now }
+/// The file of a remove, where it is not live.
+fn not_live_file<'a>(state: &State, action: &'a Action) -> Option<Key<'a>>
+    ensures { option_map file_of_key result ≡ not_live_file (live_in state.now) action.now }
 {
     match action {
-        Action::Remove(remove) if state.live(remove.path.as_str()).is_none() => {
-            Some(remove.path.as_str())
-        }
+        Action::Remove(remove) if state.live(remove.key()).is_none() => Some(remove.key()),
         _ => None,
     }
 }
 
-/// The least path of the removes whose files are not live.
-fn least_not_live_path<'a>(state: &State, actions: &'a [Action]) -> Option<&'a str>
-    ensures { option_copied result ≡ least (filter_map (not_live_path (live_in state.now)) actions.now) }
+/// The least file of the removes whose files are not live.
+fn least_not_live_file<'a>(state: &State, actions: &'a [Action]) -> Option<Key<'a>>
+    ensures { option_map file_of_key result
+        ≡ least_file (filter_map (not_live_file (live_in state.now)) actions.now) }
 {
     let mut best = None;
     for action in actions {
-        if let Some(path) = not_live_path(state, action) {
-            best = lesser(best, path);
+        if let Some(file) = not_live_file(state, action) {
+            best = lesser_file(best, file);
         }
     }
     best
@@ -82,9 +82,10 @@ fn least_not_live_path<'a>(state: &State, actions: &'a [Action]) -> Option<&'a s
 pub(crate) fn check_removes(alloc: Global, state: &State, actions: &[Action]) -> Result<(), Broken>
     ensures { Tells result (not_live (live_in state.now) actions.now) }
 {
-    if let Some(path) = least_not_live_path(state, actions) {
-        let path = Name::from_str(alloc, path)?;
-        return Err(Broken::NotLive { path });
+    if let Some(file) = least_not_live_file(state, actions) {
+        let path = Name::from_str(alloc, file.path)?;
+        let vector = file.id(alloc)?;
+        return Err(Broken::NotLive { path, vector });
     }
     Ok(())
 }

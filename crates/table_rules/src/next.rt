@@ -7,10 +7,11 @@ ghost use Rattle.table_rules.specs.Broken.{Tells, broken_by, broken_start, broke
 ghost use Rattle.table_rules.specs.Seen.{seen};
 
 use crate::Broken;
+use crate::contents::check_contents;
 use crate::lookups::{check_removes, check_txns};
 use crate::rules::{
-    check_append_only, check_columns, check_features, check_info, check_invariants, check_meta,
-    check_partitions, check_property, check_time,
+    check_columns, check_features, check_info, check_invariants, check_meta, check_property,
+    check_time,
 };
 use crate::said::{own_meta, own_protocol};
 use action_types::{Action, Meta, Protocol};
@@ -46,15 +47,14 @@ fn check_metadata(alloc: Global, state: &State, actions: &[Action]) -> Result<()
     check_columns(state.meta(), actions)
 }
 
-/// The rules on txns and files.
+/// The rules on txns, files and domains.
 fn check_files(alloc: Global, state: &State, actions: &[Action]) -> Result<(), Broken>
     ensures { Tells result (broken_files (seen state.now) actions.now) }
 {
     check_txns(alloc, state, actions)?;
     check_removes(alloc, state, actions)?;
-    let meta = new_meta(state, actions);
-    check_append_only(alloc, new_protocol(state, actions), meta, actions)?;
-    check_partitions(alloc, meta, actions)
+    let protocol = new_protocol(state, actions);
+    check_contents(alloc, protocol, new_meta(state, actions), actions)
 }
 
 /// The protocol with the commit: its own, else the table's.

@@ -1,18 +1,14 @@
-//! Each rule of a next commit that needs no look-up in the table.
+//! The rules of a next commit on its first action, its time, its protocol and its metadata.
 
 ghost use Rattle.std.specs.Prelude.{◌≡◌};
-ghost use Rattle.std.specs.List.{filter_map};
 ghost use Rattle.std.specs.Option.{option_copied};
-ghost use Rattle.least_names.specs.Least.{least};
-ghost use Rattle.table_rules.specs.Texts.{names_have, listed};
-ghost use Rattle.table_rules.specs.Broken.{Tells, no_info, no_meta, time_not_after, feature, property, invariants, columns, other_columns, has_feature, has_property, is_append_only, changing_path, append_only, columns_of, other_partition, partition};
+ghost use Rattle.table_rules.specs.Broken.{Tells, no_info, no_meta, time_not_after, feature, property, invariants, columns, other_columns};
 
 use crate::Broken;
-use crate::features::{faulty_feature, listed};
+use crate::features::faulty_feature;
 use crate::said::{own_meta, own_protocol, own_time};
-use crate::texts::{contains_text, names_have, pairs_are_of, pairs_have};
-use action_types::{Action, Meta, Name, Protocol};
-use least_names::lesser;
+use crate::texts::{contains_text, pairs_have};
+use action_types::{Action, Meta, Name};
 use std::alloc::Global;
 
 /// The first action is a commitInfo.
@@ -96,118 +92,6 @@ pub(crate) fn check_columns(old: Option<&Meta>, actions: &[Action]) -> Result<()
         && new.columns != old.columns
     {
         return Err(Broken::Columns);
-    }
-    Ok(())
-}
-
-/// Whether the writers' features have a name.
-fn has_feature(protocol: Option<&Protocol>, name: &str) -> bool
-    ensures { result ≡ has_feature name.now (option_copied protocol.entry) }
-{
-    match protocol {
-        None => false,
-        Some(protocol) => names_have(listed(&protocol.writer_features), name),
-    }
-}
-
-/// Whether a property is `true`.
-fn has_property(meta: Option<&Meta>, name: &str) -> bool
-    ensures { result ≡ has_property name.now (option_copied meta.entry) }
-{
-    match meta {
-        None => false,
-        Some(meta) => pairs_have(meta.configuration.as_slice(), name, "true"),
-    }
-}
-
-/// The path of a remove that changes data.
-fn changing_path(action: &Action) -> Option<&str>
-    ensures { option_copied result ≡ changing_path action.now }
-{
-    match action {
-        Action::Remove(remove) if remove.change => Some(remove.path.as_str()),
-        _ => None,
-    }
-}
-
-/// The least path of the removes that change data.
-fn least_changing_path(actions: &[Action]) -> Option<&str>
-    ensures { option_copied result ≡ least (filter_map changing_path actions.now) }
-{
-    let mut best = None;
-    for action in actions {
-        if let Some(path) = changing_path(action) {
-            best = lesser(best, path);
-        }
-    }
-    best
-}
-
-/// An append-only table loses no data; protocol and metadata are those with the commit.
-pub(crate) fn check_append_only(
-    alloc: Global,
-    protocol: Option<&Protocol>,
-    meta: Option<&Meta>,
-    actions: &[Action],
-) -> Result<(), Broken>
-    ensures { Tells result (append_only (option_copied protocol.entry) (option_copied meta.entry) actions.now) }
-{
-    if has_feature(protocol, "appendOnly")
-        && has_property(meta, "delta.appendOnly")
-        && let Some(path) = least_changing_path(actions)
-    {
-        let path = Name::from_str(alloc, path)?;
-        return Err(Broken::AppendOnly { path });
-    }
-    Ok(())
-}
-
-/// The partition columns of the metadata.
-fn columns_of(meta: Option<&Meta>) -> &[Name]
-    ensures { result.now ≡ columns_of (option_copied meta.entry) }
-{
-    match meta {
-        None => &[],
-        Some(meta) => meta.columns.as_slice(),
-    }
-}
-
-/// The path of an add whose partition values are not those of the columns.
-fn other_partition<'a>(columns: &[Name], action: &'a Action) -> Option<&'a str>
-    ensures { option_copied result ≡ other_partition columns.now action.now }
-{
-    match action {
-        Action::Add(add) if !pairs_are_of(add.values.as_slice(), columns) => Some(
-            add.path.as_str(),
-        ),
-        _ => None,
-    }
-}
-
-/// The least path of the adds whose partition values are not those of the columns.
-fn least_other_partition<'a>(columns: &[Name], actions: &'a [Action]) -> Option<&'a str>
-    ensures { option_copied result ≡ least (filter_map (other_partition columns.now) actions.now) }
-{
-    let mut best = None;
-    for action in actions {
-        if let Some(path) = other_partition(columns, action) {
-            best = lesser(best, path);
-        }
-    }
-    best
-}
-
-/// Each add has the partition columns of the metadata with the commit.
-pub(crate) fn check_partitions(
-    alloc: Global,
-    meta: Option<&Meta>,
-    actions: &[Action],
-) -> Result<(), Broken>
-    ensures { Tells result (partition (option_copied meta.entry) actions.now) }
-{
-    if let Some(path) = least_other_partition(columns_of(meta), actions) {
-        let path = Name::from_str(alloc, path)?;
-        return Err(Broken::Partition { path });
     }
     Ok(())
 }

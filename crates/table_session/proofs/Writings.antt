@@ -39,7 +39,7 @@ told_written (Ok (written.Already recorded latest)) = refl
 told_written (Err failed.NoTable) = refl
 told_written (Err (failed.Exists latest)) = refl
 told_written (Err (failed.Broken base why)) = refl
-told_written (Err (failed.Conflict base winner rule key latest)) = refl
+told_written (Err (failed.Conflict base winner rule key vector latest)) = refl
 told_written (Err (failed.Contended attempts latest)) = refl
 told_written (Err (failed.Full latest)) = refl
 told_written (Err (failed.TimeEnd base last)) = refl
@@ -119,9 +119,9 @@ written_gains tells (Err failed.NoTable) k m g a w counts = gains_quiet tells re
 }) counts refl refl refl
 written_gains tells (Err (failed.Exists latest)) k m g a w counts = gains_quiet tells (reply.Exists latest) k m g (latest_front (reply.Exists latest) latest k m refl refl refl tt w) counts refl refl refl
 written_gains tells (Err (failed.Broken base why)) k m g a w counts = gains_quiet tells (reply.Broken base why) k m g (base_fronts (reply.Broken base why) base k m refl refl refl refl w) counts refl refl refl
-written_gains tells (Err (failed.Conflict base winner rule key latest)) k m g a w counts =
-    gains_quiet tells (reply.Conflict base key latest rule winner) k m g
-    (latest_front (reply.Conflict base key latest rule winner) latest k m refl refl refl (omega (arith, w.from.front_is.seen, w.from.front_is.told)) w.to) counts refl refl refl
+written_gains tells (Err (failed.Conflict base winner rule key vector latest)) k m g a w counts =
+    gains_quiet tells (reply.Conflict base key latest rule vector winner) k m g
+    (latest_front (reply.Conflict base key latest rule vector winner) latest k m refl refl refl (omega (arith, w.from.front_is.seen, w.from.front_is.told)) w.to) counts refl refl refl
 written_gains tells (Err (failed.Contended attempts latest)) k m g a w counts =
     let f = latest_front (reply.Contended attempts latest) latest k m refl refl refl tt w.to in
     record {

@@ -1,5 +1,6 @@
 //! One caller among others, whose turns come between its own.
 
+use action_types::Key;
 use object_store::{Fail, MemStore};
 use publisher::drain;
 use snapshot_load::load;
@@ -245,7 +246,11 @@ fn a_load_finds_versions_that_were_published_meanwhile(rt: HostRuntime) -> Resul
         (snapshot.version, snapshot.latest, snapshot.time),
         (1, 1, 1001)
     );
-    assert!(rt; snapshot.state.live("a").is_some());
+    let file = Key {
+        path: "a",
+        vector: None,
+    };
+    assert!(rt; snapshot.state.live(file).is_some());
     Ok(())
 }
 

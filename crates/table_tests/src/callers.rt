@@ -1,6 +1,7 @@
 ghost use Rattle.std.specs.Prelude.{◌≡◌, ◌<◌, false, length, OnOk};
 
 use crate::untold::{LIMITS, Untold, commit};
+use action_types::Key;
 use object_store::MemStore;
 use publisher::{ClearedAll, PublishError, Published, clear_all, drain, publish_all};
 use snapshot_load::{LoadError, load, winners};
@@ -34,7 +35,11 @@ fn make_two<T: Steps>(caller: &mut T, alloc: Global) -> Result<(), StepFault>
 /// The last version, its time, the size of the file `a` there, and the number of application `A`.
 fn loaded<T: Steps>(caller: &mut T, alloc: Global) -> Result<(u64, i64, i64, i64), LoadError> {
     let snapshot = load(caller, alloc)?;
-    let size = snapshot.state.live("a").map_or(0, |add| add.size);
+    let file = Key {
+        path: "a",
+        vector: None,
+    };
+    let size = snapshot.state.live(file).map_or(0, |add| add.size);
     let number = snapshot.state.number("A").unwrap_or(0);
     Ok((snapshot.latest, snapshot.time, size, number))
 }

@@ -68,7 +68,7 @@ caught_judged tells base latest (Ok (outcome.Lost front)) k m e h = record { bas
 caught_judged tells base latest (Err failed.NoTable) k m e h = h
 caught_judged tells base latest (Err (failed.Exists l)) k m e h = h
 caught_judged tells base latest (Err (failed.Broken b why)) k m e h = h
-caught_judged tells base latest (Err (failed.Conflict b winner rule key l)) k m e h = record { base_is = h.base_is; newest = (let same = h.latest_is in omega (arith, e, same)) }
+caught_judged tells base latest (Err (failed.Conflict b winner rule key vector l)) k m e h = record { base_is = h.base_is; newest = (let same = h.latest_is in omega (arith, e, same)) }
 caught_judged tells base latest (Err (failed.Contended attempts l)) k m e h = h
 caught_judged tells base latest (Err (failed.Full l)) k m e h = h
 caught_judged tells base latest (Err (failed.TimeEnd b end)) k m e h = h

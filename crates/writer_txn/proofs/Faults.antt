@@ -40,7 +40,7 @@ pub error_later : (tells : Bool) (e : WriteError) (j k m : Knowledge) → k.faul
 error_later tells failed.NoTable j k m g h = h ∙ g
 error_later tells (failed.Exists latest) j k m g h = h ∙ g
 error_later tells (failed.Broken base why) j k m g h = h ∙ g
-error_later tells (failed.Conflict base winner rule key latest) j k m g h = h ∙ g
+error_later tells (failed.Conflict base winner rule key vector latest) j k m g h = h ∙ g
 error_later tells (failed.Contended attempts latest) j k m g h = h ∙ g
 error_later tells (failed.Full latest) j k m g h = h ∙ g
 error_later tells (failed.TimeEnd base end) j k m g h = h ∙ g
@@ -81,7 +81,7 @@ pub refused_counts : (tells : Bool) (create : Create) (id : ℕ) (now : ℤ) (li
 refused_counts tells create id now limit failed.NoTable k m h same = same
 refused_counts tells create id now limit (failed.Exists latest) k m h same = same
 refused_counts tells create id now limit (failed.Broken base why) k m h same = same
-refused_counts tells create id now limit (failed.Conflict base winner rule key latest) k m h same = same
+refused_counts tells create id now limit (failed.Conflict base winner rule key vector latest) k m h same = same
 refused_counts tells create id now limit (failed.Contended attempts latest) k m h same = same
 refused_counts tells create id now limit (failed.Full latest) k m h same = same
 refused_counts tells create id now limit (failed.TimeEnd base end) k m h same = same
@@ -96,7 +96,7 @@ judged_counts tells base latest (Ok answer) k m h same = same
 judged_counts tells base latest (Err failed.NoTable) k m h same = same
 judged_counts tells base latest (Err (failed.Exists l)) k m h same = same
 judged_counts tells base latest (Err (failed.Broken b why)) k m h same = same
-judged_counts tells base latest (Err (failed.Conflict b winner rule key l)) k m h same = same
+judged_counts tells base latest (Err (failed.Conflict b winner rule key vector l)) k m h same = same
 judged_counts tells base latest (Err (failed.Contended attempts l)) k m h same = same
 judged_counts tells base latest (Err (failed.Full l)) k m h same = same
 judged_counts tells base latest (Err (failed.TimeEnd b end)) k m h same = same

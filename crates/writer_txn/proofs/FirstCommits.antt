@@ -81,7 +81,7 @@ pub refused_stands : (tells : Bool) (create : Create) (id : ℕ) (now : ℤ) (li
 refused_stands tells create id now limit log failed.NoTable h = h
 refused_stands tells create id now limit log (failed.Exists latest) h = absurd h
 refused_stands tells create id now limit log (failed.Broken base why) h = h
-refused_stands tells create id now limit log (failed.Conflict base winner rule key latest) h = h
+refused_stands tells create id now limit log (failed.Conflict base winner rule key vector latest) h = h
 refused_stands tells create id now limit log (failed.Contended attempts latest) h = h
 refused_stands tells create id now limit log (failed.Full latest) h = h
 refused_stands tells create id now limit log (failed.TimeEnd base end) h = h
@@ -102,7 +102,7 @@ pub refused_now : (tells : Bool) (create : Create) (id : ℕ) (now : ℤ) (limit
 refused_now tells create id now limits k m failed.NoTable none terms h = none
 refused_now tells create id now limits k m (failed.Exists latest) none terms h = absurd h
 refused_now tells create id now limits k m (failed.Broken base why) none terms h = stops_at base k m h.base_is none
-refused_now tells create id now limits k m (failed.Conflict base winner rule key latest) none terms h = absurd h
+refused_now tells create id now limits k m (failed.Conflict base winner rule key vector latest) none terms h = absurd h
 refused_now tells create id now limits k m (failed.Contended attempts latest) none terms h = absurd h
 refused_now tells create id now limits k m (failed.Full latest) none terms h = absurd h
 refused_now tells create id now limits k m (failed.TimeEnd base end) none terms h = absurd h

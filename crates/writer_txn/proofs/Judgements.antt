@@ -8,9 +8,9 @@ use Rattle.action_types.specs.declared.actions.Action.{Action}
 use Rattle.action_types.specs.declared.actions.Action.TheVariants as action
 use Rattle.action_types.specs.declared.actions.Add.{Add}
 use Rattle.action_types.specs.declared.actions.Txn.{Txn}
-use Rattle.least_names.specs.Least.{least}
+use Rattle.action_types.specs.Files.{File}
+use Rattle.least_names.specs.Least.{least_file}
 use Rattle.reconcile.specs.declared.State.{State}
-use Rattle.reconcile.specs.Keys.{Key}
 use Rattle.reconcile.specs.Replay.{Log, or_else}
 use Rattle.reconcile.specs.Standing.{StandsFor, live_in}
 use Rattle.reconcile.proofs.Last.{or_else_assoc}
@@ -21,7 +21,7 @@ use Rattle.conflict_rules.specs.declared.intent.Reads.{Reads}
 use Rattle.conflict_rules.specs.declared.intent.Reads.TheVariants as reads
 use Rattle.conflict_rules.specs.declared.clash.Rule.{Rule}
 use Rattle.conflict_rules.specs.declared.clash.Rule.TheVariants as rule
-use Rattle.conflict_rules.specs.Conflict.{Said, at_path, read_path, by_delete_read, by_delete_delete, by_append, conflicts_of_table, conflict_by, conflict_with, live_files, first_of, commits_of}
+use Rattle.conflict_rules.specs.Conflict.{Said, at_file, by_append, by_delete_delete, by_delete_read, by_domain, conflicts_of_table, read_file, conflict_by, conflict_with, live_files, first_of, commits_of}
 use Rattle.table_model.specs.Log.{Commit, history}
 use Rattle.snapshot_load.specs.declared.answers.Winners.{Winners}
 use Rattle.snapshot_load.specs.Snapshots.{AreWinners}
@@ -33,25 +33,30 @@ use Rattle.writer_txn.specs.Trying.{IsFrontOf}
 
 -- ---- an append has read nothing, so it looks at no live file
 
-no_path : (live : Key → Option Add) (winner : List Action) → filter_map (read_path reads.None live) winner ≡ []
-no_path live [] = refl
-no_path live (action.Info a ∷ rest) = no_path live rest
-no_path live (action.Protocol a ∷ rest) = no_path live rest
-no_path live (action.Meta a ∷ rest) = no_path live rest
-no_path live (action.Txn a ∷ rest) = no_path live rest
-no_path live (action.Remove a ∷ rest) = no_path live rest
-no_path live (action.Add a ∷ rest) = no_path live rest
+none_read : (live : File → Option Add) (winner : List Action) → filter_map (read_file reads.None live) winner ≡ []
+none_read live [] = refl
+none_read live (action.Info a ∷ rest) = none_read live rest
+none_read live (action.Protocol a ∷ rest) = none_read live rest
+none_read live (action.Meta a ∷ rest) = none_read live rest
+none_read live (action.Txn a ∷ rest) = none_read live rest
+none_read live (action.Domain a ∷ rest) = none_read live rest
+none_read live (action.Remove a ∷ rest) = none_read live rest
+none_read live (action.Add a ∷ rest) = none_read live rest
 
-nothing_read : (read : Reads) (live : Key → Option Add) (winner : List Action) → read ≡ reads.None
-    → by_delete_read read live winner ≡ option_map (at_path rule.DeleteRead) (least [])
+nothing_read : (read : Reads) (live : File → Option Add) (winner : List Action) → read ≡ reads.None
+    → by_delete_read read live winner ≡ option_map (at_file rule.DeleteRead) (least_file [])
 nothing_read read live winner e =
-    ap (λ (r : Reads). by_delete_read r live winner) e ∙ ap (λ (paths : List (List ℕ)). option_map (at_path rule.DeleteRead) (least paths)) (no_path live winner)
+    ap (λ (r : Reads). by_delete_read r live winner) e ∙ ap (λ (files : List File). option_map (at_file rule.DeleteRead) (least_file files)) (none_read live winner)
 
-pub append_clash : (intent : Intent) (live other : Key → Option Add) (winner : List Action) → intent.reads ≡ reads.None → conflict_by intent live winner ≡ conflict_by intent other winner
+pub append_clash : (intent : Intent) (live other : File → Option Add) (winner : List Action) → intent.reads ≡ reads.None → conflict_by intent live winner ≡ conflict_by intent other winner
 append_clash intent live other winner e =
     let same : by_delete_read intent.reads live winner ≡ by_delete_read intent.reads other winner =
     nothing_read intent.reads live winner e ∙ sym (nothing_read intent.reads other winner e) in
-    ap (λ (o : Option Said). or_else (conflicts_of_table intent winner) (or_else (by_delete_delete intent.removes winner) (or_else o (by_append intent.level intent.reads winner)))) same
+    ap
+    (λ (o : Option Said).
+    or_else (conflicts_of_table intent winner)
+    (or_else (or_else (by_delete_delete intent.removes winner) (or_else o (by_append intent.level intent.reads winner))) (by_domain intent.domains winner)))
+    same
 
 -- ---- the first conflict, over lists put together and at later versions
 
@@ -217,17 +222,17 @@ caught_already tells intent f w state log recorded front won more at =
     }
 
 -- a winner conflicts
-pub caught_conflict : (tells : Bool) (intent : Intent) (f : Front) (w : Winners) (state : State) (log : List Commit) (place winner : ℕ) (named : Rule) (key : List ℕ)
+pub caught_conflict : (tells : Bool) (intent : Intent) (f : Front) (w : Winners) (state : State) (log : List Commit) (place winner : ℕ) (named : Rule) (key : List ℕ) (vector : Option (List ℕ))
     → intent.reads ≡ reads.None → IsFrontOf tells intent f log → AreWinners tells log f.latest w
-    → Some (place, (named, key)) ≡ first_of (conflict_by intent (live_in f.state)) 0 (commits_of w.commits.items)
+    → Some (place, (named, key, vector)) ≡ first_of (conflict_by intent (live_in f.state)) 0 (commits_of w.commits.items)
     → ((l : Log) → StandsFor f.state l → StandsFor state (l ++ commits_of w.commits.items))
     → IfSome (number_in state intent.app) (λ recorded. recorded <ℤ intent.number) → winner ≡ f.latest + 1 + place
-    → IsConflict tells intent f.base winner named key w.latest log
-caught_conflict tells intent f w state log place winner named key none front won clash more newer at =
+    → IsConflict tells intent f.base winner named key vector w.latest log
+caught_conflict tells intent f w state log place winner named key vector none front won clash more newer at =
     let last = won.latest in
     let count = won.count in
     let base = front.base in
-    let some = first_of_within (conflict_by intent (live_in f.state)) 0 (commits_of w.commits.items) (place, (named, key)) (sym clash) in
+    let some = first_of_within (conflict_by intent (live_in f.state)) 0 (commits_of w.commits.items) (place, (named, key, vector)) (sym clash) in
     let high = some.1 in
     let e : length (commits_of w.commits.items) ≡ length w.commits.items = length-map w.commits.items _ in
     let stands : IsTrue tells → StandsFor state (before (w.latest + 1) log) = λ t.
@@ -237,8 +242,8 @@ caught_conflict tells intent f w state log place winner named key none front won
       from = omega (arith, base, at);
       to = omega (arith, at, high, e, count);
       first = λ t.
-          clash_found intent f log w.latest (commits_of w.commits.items) (Some (place, (named, key))) none base front.within last (won.actions t) (front.conflicts t) clash
-          ∙ ap (λ (v : ℕ). let p : Option (ℕ × Said) = Some (v, (named, key)) in p) (sym at);
+          clash_found intent f log w.latest (commits_of w.commits.items) (Some (place, (named, key, vector))) none base front.within last (won.actions t) (front.conflicts t) clash
+          ∙ ap (λ (v : ℕ). let p : Option (ℕ × Said) = Some (v, (named, key, vector)) in p) (sym at);
     }
 
 -- ---- one more commit applied

@@ -60,7 +60,7 @@ create_stands_longer tells create (Ok (written.Already recorded latest)) reading
 create_stands_longer tells create (Err failed.NoTable) reading last log longer s h = h
 create_stands_longer tells create (Err (failed.Exists latest)) reading last log longer s h = below_longer log longer latest s h
 create_stands_longer tells create (Err (failed.Broken base why)) reading last log longer s h = h
-create_stands_longer tells create (Err (failed.Conflict base winner rule key latest)) reading last log longer s h = h
+create_stands_longer tells create (Err (failed.Conflict base winner rule key vector latest)) reading last log longer s h = h
 create_stands_longer tells create (Err (failed.Contended attempts latest)) reading last log longer s h = h
 create_stands_longer tells create (Err (failed.Full latest)) reading last log longer s h = h
 create_stands_longer tells create (Err (failed.TimeEnd base end)) reading last log longer s h = h
@@ -121,9 +121,9 @@ broken_longer tells intent base why log longer s h =
       rule = λ t id time. ap (λ (l : List Commit). broken_but_time_and_number (history l) (composed_append intent id time)) (front_kept log longer (base + 1) s (omega (arith, r))) ∙ h.rule t id time;
     }
 
-conflict_longer : (tells : Bool) (intent : Intent) (base winner : ℕ) (rule : Rule) (key : List ℕ) (latest : ℕ) (log longer : List Commit) → StartsWith longer log
-    → IsConflict tells intent base winner rule key latest log → IsConflict tells intent base winner rule key latest longer
-conflict_longer tells intent base winner rule key latest log longer s h =
+conflict_longer : (tells : Bool) (intent : Intent) (base winner : ℕ) (rule : Rule) (key : List ℕ) (vector : Option (List ℕ)) (latest : ℕ) (log longer : List Commit) → StartsWith longer log
+    → IsConflict tells intent base winner rule key vector latest log → IsConflict tells intent base winner rule key vector latest longer
+conflict_longer tells intent base winner rule key vector latest log longer s h =
     let r = h.newer.ratified in
     let f = h.from in
     let w = h.to in
@@ -180,7 +180,7 @@ write_stands_longer tells intent (Err failed.NoTable) reading last log longer s 
 write_stands_longer tells intent (Err (failed.Exists latest)) reading last log longer s h = h
 write_stands_longer tells intent (Err (failed.Broken None why)) reading last log longer s h = h
 write_stands_longer tells intent (Err (failed.Broken (Some base) why)) reading last log longer s h = broken_longer tells intent base why log longer s h
-write_stands_longer tells intent (Err (failed.Conflict base winner rule key latest)) reading last log longer s h = conflict_longer tells intent base winner rule key latest log longer s h
+write_stands_longer tells intent (Err (failed.Conflict base winner rule key vector latest)) reading last log longer s h = conflict_longer tells intent base winner rule key vector latest log longer s h
 write_stands_longer tells intent (Err (failed.Contended attempts latest)) reading last log longer s h = newer_longer tells intent latest log longer s h
 write_stands_longer tells intent (Err (failed.Full latest)) reading last log longer s h = newer_longer tells intent latest log longer s h
 write_stands_longer tells intent (Err (failed.TimeEnd base end)) reading last log longer s h = end_longer tells intent base end log longer s h

@@ -218,7 +218,7 @@ names_of_caught tells base (Ok answer) k m h = refl
 names_of_caught tells base (Err failed.NoTable) k m h = refl
 names_of_caught tells base (Err (failed.Exists l)) k m h = refl
 names_of_caught tells base (Err (failed.Broken b why)) k m h = refl
-names_of_caught tells base (Err (failed.Conflict b winner rule key l)) k m h = refl
+names_of_caught tells base (Err (failed.Conflict b winner rule key vector l)) k m h = refl
 names_of_caught tells base (Err (failed.Contended attempts l)) k m h = refl
 names_of_caught tells base (Err (failed.Full l)) k m h = refl
 names_of_caught tells base (Err (failed.TimeEnd b end)) k m h = refl
@@ -231,7 +231,7 @@ pub names_of_create : (create : Create) (id : ℕ) (now : ℤ) (limit : ℕ) (e 
 names_of_create create id now limit failed.NoTable h = absurd h
 names_of_create create id now limit (failed.Exists latest) h = absurd h
 names_of_create create id now limit (failed.Broken base why) h = refl
-names_of_create create id now limit (failed.Conflict base winner rule key latest) h = absurd h
+names_of_create create id now limit (failed.Conflict base winner rule key vector latest) h = absurd h
 names_of_create create id now limit (failed.Contended attempts latest) h = absurd h
 names_of_create create id now limit (failed.Full latest) h = absurd h
 names_of_create create id now limit (failed.TimeEnd base end) h = absurd h

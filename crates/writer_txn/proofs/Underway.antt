@@ -7,7 +7,7 @@ use Rattle.std.proofs.lemmas.List.Quantifiers.{all_pairs_push}
 use Rattle.log_names.specs.declared.LogName.{LogName}
 use Rattle.log_names.specs.declared.LogName.TheVariants as name
 use Rattle.commit_catalog.specs.declared.Limits.{Limits}
-use Rattle.reconcile.specs.Replay.{Log, time_of_log, meta_of_log}
+use Rattle.reconcile.specs.Replay.{Log, time_of_log, meta_of_log, protocol_of_log}
 use Rattle.reconcile.specs.Standing.{StandsFor}
 use Rattle.table_rules.specs.Broken.{after}
 use Rattle.commit_timestamps.specs.Times.{next_time}
@@ -18,7 +18,7 @@ use Rattle.staged_commit.specs.declared.fault.ComposeError.TheVariants as fault
 use Rattle.staged_commit.specs.Composed.{composed_append}
 use Rattle.staged_commit.specs.Rules.{broken_but_time, broken_but_time_and_number}
 use Rattle.staged_commit.specs.Answers.{IsAppended, IsAppendRefused, HasPassed}
-use Rattle.staged_commit.proofs.Appends.{append-time, same-above-number, same-rules-of-metadata, same-at-next-time, same-meta}
+use Rattle.staged_commit.proofs.Appends.{append-time, same-above-number, same-rules-of-table, same-at-next-time, same-meta, same-protocol}
 use Rattle.table_model.specs.declared.answers.StepFault.{StepFault}
 use Rattle.table_model.specs.declared.answers.StepFault.TheVariants as step
 use Rattle.table_model.specs.declared.known.Try.{Try}
@@ -62,11 +62,21 @@ meta_at_base tells intent f log h t =
     ap meta_of_log (front_parts log f.base (f.latest + 1) (omega (arith, base)) (omega (arith, within)))
     ∙ same-meta intent (before (f.base + 1) log) (f.base + 1) (before (f.base + 1) log) (above f.base (f.latest + 1) log) (h.conflicts t)
 
+-- nor did a protocol
+protocol_at_base : (tells : Bool) (intent : Intent) (f : Front) (log : List Commit) → IsFrontOf tells intent f log → IsTrue tells
+    → protocol_of_log (before (f.latest + 1) log) ≡ protocol_of_log (before (f.base + 1) log)
+protocol_at_base tells intent f log h t =
+    let base = h.base in
+    let within = h.within in
+    ap protocol_of_log (front_parts log f.base (f.latest + 1) (omega (arith, base)) (omega (arith, within)))
+    ∙ same-protocol intent (before (f.base + 1) log) (f.base + 1) (before (f.base + 1) log) (above f.base (f.latest + 1) log) (h.conflicts t)
+
 -- the rules against the base are those against the last version, but for the time
 rules_at_base : (tells : Bool) (intent : Intent) (f : Front) (log : List Commit) (id id' : ℕ) (time time' : ℤ) → IsFrontOf tells intent f log → IsTrue tells
     → broken_but_time_and_number (before (f.base + 1) log) (composed_append intent id' time') ≡ broken_but_time (before (f.latest + 1) log) (composed_append intent id time)
 rules_at_base tells intent f log id id' time time' h t =
-    same-rules-of-metadata intent (before (f.base + 1) log) (before (f.latest + 1) log) id' id time' time (sym (meta_at_base tells intent f log h t))
+    same-rules-of-table intent (before (f.base + 1) log) (before (f.latest + 1) log) id' id time' time (sym (protocol_at_base tells intent f log h t))
+    (sym (meta_at_base tells intent f log h t))
     ∙ sym (same-above-number intent (before (f.latest + 1) log) id time (h.number t))
 
 base_newer : (tells : Bool) (intent : Intent) (f : Front) (log : List Commit) → IsFrontOf tells intent f log → IsNewerAt tells intent f.base log
@@ -343,7 +353,7 @@ caught_attempt tells base tried version id latest bytes k j p m (Ok (outcome.Los
 caught_attempt tells base tried version id latest bytes k j p m (Err failed.NoTable) u g h at lost own caught = absurd caught
 caught_attempt tells base tried version id latest bytes k j p m (Err (failed.Exists l)) u g h at lost own caught = absurd caught
 caught_attempt tells base tried version id latest bytes k j p m (Err (failed.Broken b why)) u g h at lost own caught = absurd caught
-caught_attempt tells base tried version id latest bytes k j p m (Err (failed.Conflict b winner rule key l)) u g h at lost own caught =
+caught_attempt tells base tried version id latest bytes k j p m (Err (failed.Conflict b winner rule key vector l)) u g h at lost own caught =
     let mine : m.mine ≡ j.mine = own.mine ∙ ap (λ (x : Knowledge). x.mine) lost.same in
     let all : IsGrown j m = grows_trans j p m g h in
     let longer : length j.seen < length m.seen = (let a = lost.last in let b = lost.later in let c = length_kept p.seen m.seen h.seen in omega (arith, a, b, c, at)) in

@@ -21,7 +21,7 @@ abbrev pub CountsError : Bool → Knowledge → WriteError → Knowledge → Typ
 CountsError tells k failed.NoTable m = m.faults ≡ k.faults
 CountsError tells k (failed.Exists latest) m = m.faults ≡ k.faults
 CountsError tells k (failed.Broken base why) m = m.faults ≡ k.faults
-CountsError tells k (failed.Conflict base winner rule key latest) m = m.faults ≡ k.faults
+CountsError tells k (failed.Conflict base winner rule key vector latest) m = m.faults ≡ k.faults
 CountsError tells k (failed.Contended attempts latest) m = m.faults ≡ k.faults
 CountsError tells k (failed.Full latest) m = m.faults ≡ k.faults
 CountsError tells k (failed.TimeEnd base end) m = m.faults ≡ k.faults

@@ -43,7 +43,7 @@ CreateStands tells create (Ok (written.Already recorded latest)) reading last lo
 CreateStands tells create (Err failed.NoTable) reading last log = ⊥
 CreateStands tells create (Err (failed.Exists latest)) reading last log = latest < length log
 CreateStands tells create (Err (failed.Broken base why)) reading last log = IsBrokenCreate create base why reading last
-CreateStands tells create (Err (failed.Conflict base winner rule key latest)) reading last log = ⊥
+CreateStands tells create (Err (failed.Conflict base winner rule key vector latest)) reading last log = ⊥
 CreateStands tells create (Err (failed.Contended attempts latest)) reading last log = ⊥
 CreateStands tells create (Err (failed.Full latest)) reading last log = ⊥
 CreateStands tells create (Err (failed.TimeEnd base end)) reading last log = ⊥

@@ -26,7 +26,7 @@ abbrev pub names_taken : WriteError → List LogName
 names_taken failed.NoTable = []
 names_taken (failed.Exists latest) = []
 names_taken (failed.Broken base why) = []
-names_taken (failed.Conflict base winner rule key latest) = []
+names_taken (failed.Conflict base winner rule key vector latest) = []
 names_taken (failed.Contended attempts latest) = []
 names_taken (failed.Full latest) = []
 names_taken (failed.TimeEnd base end) = []

@@ -16,7 +16,7 @@ abbrev pub CreateRefused : Create → ℕ → ℤ → ℕ → WriteError → Typ
 CreateRefused create id now limit failed.NoTable = ⊥
 CreateRefused create id now limit (failed.Exists latest) = ⊥
 CreateRefused create id now limit (failed.Broken base why) = IsBrokenCreate create base why now id
-CreateRefused create id now limit (failed.Conflict base winner rule key latest) = ⊥
+CreateRefused create id now limit (failed.Conflict base winner rule key vector latest) = ⊥
 CreateRefused create id now limit (failed.Contended attempts latest) = ⊥
 CreateRefused create id now limit (failed.Full latest) = ⊥
 CreateRefused create id now limit (failed.TimeEnd base end) = ⊥

@@ -1,6 +1,6 @@
 -- What an answer of a write says of the log: it stands in the log as it was seen at the answer, and in every longer one.
 -- The base is the last version when the table was loaded.
-use Rattle.std.specs.Prelude.{◌≡◌, ◌<◌, ◌≤◌, ◌+◌, ◌≤ℤ◌, ℕ, ℤ, List, length, Bool, IsTrue, Some, None, Result, Ok, Err, ⊤}
+use Rattle.std.specs.Prelude.{◌≡◌, ◌<◌, ◌≤◌, ◌+◌, ◌≤ℤ◌, ℕ, ℤ, List, length, Bool, IsTrue, Option, Some, None, Result, Ok, Err, ⊤}
 use Rattle.action_json.specs.Commit.{canonical_text}
 use Rattle.reconcile.specs.Replay.{time_of_log}
 use Rattle.table_rules.specs.declared.broken.Broken.{Broken}
@@ -45,12 +45,13 @@ pub record IsBrokenWrite (tells : Bool) (intent : Intent) (base : ℕ) (why : Br
   pub newer : IsNewerAt tells intent base log
   pub rule : IsTrue tells → (id : ℕ) (time : ℤ) → broken_but_time_and_number (before (base + 1) log) (composed_append intent id time) ≡ Some why
 
--- the winner is the lowest version above the base that conflicts, with its first rule and the least key
-pub record IsConflict (tells : Bool) (intent : Intent) (base winner : ℕ) (rule : Rule) (key : List ℕ) (latest : ℕ) (log : List Commit) : Type 0 where
+-- the winner is the lowest version above the base that conflicts, with its first rule and the least key: an application, a domain
+-- or a path, and beside the path the unique id of the file's vector where it has one
+pub record IsConflict (tells : Bool) (intent : Intent) (base winner : ℕ) (rule : Rule) (key : List ℕ) (vector : Option (List ℕ)) (latest : ℕ) (log : List Commit) : Type 0 where
   pub newer : IsNewerAt tells intent latest log
   pub from : base < winner
   pub to : winner ≤ latest
-  pub first : IsTrue tells → first_clash intent base (latest + 1) log ≡ Some (winner, (rule, key))
+  pub first : IsTrue tells → first_clash intent base (latest + 1) log ≡ Some (winner, (rule, key, vector))
 
 -- a commit above the base or the base itself has the last time that there is: the last one below `version`
 pub record IsEndOfTime (tells : Bool) (intent : Intent) (base : ℕ) (end : ℤ) (log : List Commit) : Type 0 where
@@ -90,7 +91,7 @@ WriteStands tells intent (Err failed.NoTable) reading last log = ⊤
 WriteStands tells intent (Err (failed.Exists latest)) reading last log = ⊥
 WriteStands tells intent (Err (failed.Broken None why)) reading last log = ⊥
 WriteStands tells intent (Err (failed.Broken (Some base) why)) reading last log = IsBrokenWrite tells intent base why log
-WriteStands tells intent (Err (failed.Conflict base winner rule key latest)) reading last log = IsConflict tells intent base winner rule key latest log
+WriteStands tells intent (Err (failed.Conflict base winner rule key vector latest)) reading last log = IsConflict tells intent base winner rule key vector latest log
 WriteStands tells intent (Err (failed.Contended attempts latest)) reading last log = IsNewerAt tells intent latest log
 WriteStands tells intent (Err (failed.Full latest)) reading last log = IsNewerAt tells intent latest log
 WriteStands tells intent (Err (failed.TimeEnd base end)) reading last log = IsEndOfTime tells intent base end log

@@ -1,4 +1,5 @@
 ghost use Rattle.std.specs.Prelude.{◌≡◌, ◌<◌, ◌≤◌, ◌+◌, ◌++◌, ℕ, ℤ, Bool, List, IsTrue, IfOk, length, Some};
+ghost use Rattle.action_types.specs.Files.{id_of};
 ghost use Rattle.reconcile.specs.Replay.{Log};
 ghost use Rattle.reconcile.specs.Standing.{StandsFor};
 ghost use Rattle.table_rules.specs.Seen.{number_in};
@@ -16,9 +17,9 @@ ghost use Rattle.writer_txn.specs.Trying.{IsFrontOf, IsUnderway, AttemptStands, 
 use crate::answers::Written;
 use crate::errors::WriteError;
 use crate::proposing::{Proposed, propose};
-use action_types::{Action, Name};
+use action_types::{Action, Key, Name};
 use commit_catalog::Limits;
-use conflict_rules::first_conflict_of;
+use conflict_rules::{Clash, first_conflict_of};
 use lake_io::{Clock, Ids};
 use reconcile::State;
 use snapshot_load::{Winners, winners};
@@ -96,11 +97,13 @@ fn judged(
     match lowest {
         Some(lowest) => {
             let key = Name::from_str(alloc, lowest.clash.key)?;
+            let vector = id_of(alloc, lowest.clash)?;
             Err(WriteError::Conflict {
                 base,
                 winner: latest + 1 + lowest.place as u64,
                 rule: lowest.clash.rule,
                 key,
+                vector,
                 latest: winners.latest,
             })
         }
@@ -110,6 +113,17 @@ fn judged(
             state,
         })),
     }
+}
+
+/// The unique id of the vector of a clash, if there is one; refused for want of memory alone.
+fn id_of(alloc: Global, clash: Clash<'_>) -> Result<Option<Name>, AllocError>
+    ensures { IfOk result (λ id. id ≡ id_of clash.entry.vector) }
+{
+    let file = Key {
+        path: clash.key,
+        vector: clash.vector,
+    };
+    file.id(alloc)
 }
 
 /// Reads the commits that were ratified since, and judges the write by them.

@@ -28,13 +28,15 @@ pub enum WriteError {
         base: Option<u64>,
         why: Broken,
     },
-    /// A commit above the base conflicts with the write: the lowest such version, its first rule, and the least key.
+    /// A commit above the base conflicts with the write: the lowest such version, its first rule, and the least key; where that
+    /// is a file with a deletion vector, its path is the key, and the vector's unique id stands beside it.
     #[error("the commit of version {winner} conflicts by the rule {rule:?}")]
     Conflict {
         base: u64,
         winner: u64,
         rule: Rule,
         key: Name,
+        vector: Option<Name>,
         latest: u64,
     },
     /// As many ratifications were refused as the limit of attempts says.

@@ -1,5 +1,4 @@
-use Rattle.std.proofs.Common.{◌≡◌, ◌≢◌, length, sym, ap, ◌∙◌, option_and_then, Some}
-use Rattle.json_tree.specs.View.{view}
+use Rattle.std.proofs.Common.{◌≡◌, ◌≢◌, length, sym, ap, ◌∙◌, option_and_then}
 use Rattle.action_json.specs.Lines.{member_of}
 use Rattle.action_json.proofs.Members.{member_of-many, member_of-one}
 use Rattle.action_json.proofs.line.only_member.Goals as goal

@@ -1,12 +1,12 @@
 use Rattle.std.proofs.Common.{◌≡◌, Option, option_map, subst}
 use Rattle.action_types.specs.declared.actions.Add.{Add}
-use Rattle.reconcile.specs.Keys.{Key}
+use Rattle.action_types.specs.Files.{File}
 use Rattle.conflict_rules.specs.Conflict.{placed, conflict_by, first_of, commits_of}
 use Rattle.conflict_rules.proofs.Views.{live_in-files}
 use Rattle.conflict_rules.proofs.conflict.first_conflict_of.Goals as goal
 
 pub returns-clause-of_log : goal.returns-clause-of_log
 returns-clause-of_log c = λ log stands.
-    let P : (Key → Option Add) → Type 0 =
+    let P : (File → Option Add) → Type 0 =
     λ live. option_map placed c.lowest.result ≡ first_of (conflict_by c.args.intent.now live) 0 (commits_of c.args.winners.now) in
     subst P (live_in-files c.args.base.now log stands) c.lowest.ensures

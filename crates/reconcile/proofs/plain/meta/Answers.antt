@@ -1,7 +1,6 @@
-use Rattle.std.proofs.Common.{◌∙◌, ap}
-use Rattle.std.specs.Prelude.{option_map}
+use Rattle.std.proofs.Common.{◌∙◌}
 use Rattle.std.specs.Option.{option_copied}
-use Rattle.reconcile.specs.Plain.{kept, kept_tombstone, log_of}
+use Rattle.reconcile.specs.Plain.{log_of}
 use Rattle.reconcile.proofs.Searching.{meta_searched}
 use Rattle.reconcile.proofs.plain.meta.Goals as goal
 

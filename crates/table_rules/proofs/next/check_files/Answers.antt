@@ -5,5 +5,4 @@ pub returns : goal.returns
 returns c =
     Tells-rest _ _ _ c.in_ok-check_txns.ensures
     (Tells-rest _ _ _ c.in_ok-check_removes.ensures
-    (Tells-rest _ _ _ (rw (c.new_protocol.ensures, c.new_meta-meta.ensures) at c.in_ok-check_append_only.ensures)
-    (rw c.new_meta-meta.ensures at c.check_partitions.ensures)))
+    (rw (c.new_protocol-protocol.ensures, c.new_meta.ensures) at c.check_contents.ensures))

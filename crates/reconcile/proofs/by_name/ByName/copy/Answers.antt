@@ -1,4 +1,4 @@
-use Rattle.std.proofs.Common.{◌∙◌, ap, sym, string_bytes}
+use Rattle.std.proofs.Common.{◌∙◌, ap, sym}
 use Rattle.std.specs.FinMap as fin
 use Rattle.reconcile.proofs.Named.{copy_none, copy_more, copy_all}
 use Rattle.reconcile.proofs.by_name.ByName.copy.Goals as goal

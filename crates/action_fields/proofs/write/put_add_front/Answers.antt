@@ -1,0 +1,8 @@
+use Rattle.std.proofs.Common.{append-nil, append_assoc, ◌∙◌, rules, arith, to_z-of_z}
+use Rattle.action_fields.proofs.write.put_add_front.Goals as goal
+
+pub returns-clause-puts : goal.returns-clause-puts
+returns-clause-puts c = record {
+  ok = rw (c.in_ok-put_pairs.ensures.ok, c.in_ok-put_integer.ensures.puts.ok, c.in_ok-put_optional_vector.ensures.puts.ok, c.in_ok-put_optional_flag.ensures.ok, c.written_flag.ensures) (simp (append_assoc, append-nil) (first_of (search rules, grind (arith, to_z-of_z))));
+  before = c.put_pairs.ensures.before ∙ c.put_integer.ensures.puts.before ∙ c.put_optional_vector.ensures.puts.before ∙ c.put_optional_flag.ensures.before;
+}

@@ -1,0 +1,6 @@
+use Rattle.std.proofs.Common.{◌≡◌, take, fold}
+use Rattle.action_json.specs.Digests.{fnv_step}
+use Rattle.action_json.proofs.digests.digested.Given as goal
+
+abbrev pub invariant-loop-byte : goal.invariant-loop-byte
+invariant-loop-byte l = l.hash ≡ fold fnv_step l.initial.hash (take l.byte-index l.bytes)

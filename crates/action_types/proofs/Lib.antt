@@ -1,0 +1,2 @@
+-- Laws of lists for this crate.
+pub mod Ends

@@ -1,0 +1,6 @@
+use Rattle.std.proofs.Common.{◌∙◌}
+use Rattle.reconcile.proofs.Listing.{domains_in-log}
+use Rattle.reconcile.proofs.state.State.domains.Goals as goal
+
+pub returns-clause-of_log : goal.returns-clause-of_log
+returns-clause-of_log c = λ log h. c.values.ensures ∙ domains_in-log c.args.self.now log h

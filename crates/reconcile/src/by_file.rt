@@ -1,0 +1,258 @@
+ghost use Rattle.std.specs.Prelude.{◌≡◌, ◌++◌, Some, None, OnOk, IfOk, bytes_eq};
+ghost use Rattle.std.specs.Option.{option_copied};
+ghost use Rattle.std.specs.FinMap as fin;
+ghost use Rattle.action_types.specs.Files.{file_of_key, offset_text, unique_id};
+ghost use Rattle.reconcile.specs.ByFile.{plain_file, marked_file, or_empty, PutsBack, ChangesAt};
+
+use crate::by_name::{ByName, EqualCopy};
+use crate::merge::FilesLeft;
+use action_types::{Key, Name, Vector};
+use itoa::Buffer;
+use std::alloc::{AllocError, Global};
+use std::marker::Model;
+
+/// Values by file: those of files without a deletion vector by path, and the others by the unique ids of the
+/// vectors under their paths. A contract sees a finite map from the files.
+#[derive(Drop)]
+pub(crate) struct ByFile<V> {
+    alloc: Global,
+    plain: ByName<V>,
+    marked: ByName<ByName<V>>,
+}
+
+impl<V> Model for ByFile<V> {
+    ghost use Rattle.std.specs.FinMap as fin;
+    ghost use Rattle.action_types.specs.Files.{file_cmp};
+    ghost use Rattle.reconcile.specs.ByFile.{file_code, by_file};
+
+    ghost Value = { fin.FinMap file_cmp V };
+
+    ghost coded = { fin.code file_code V.code };
+
+    ghost view = { λ a. by_file a.plain a.marked };
+}
+
+/// Whether a text is `@` and a number in decimal.
+fn is_mark(number: i64, text: &[u8]) -> bool
+    ensures { result ≡ bytes_eq (offset_text (Some number)) text.now }
+{
+    let mut buffer = Buffer::new();
+    match text.split_first() {
+        Some((mark, digits)) => *mark == b'@' && buffer.format(number).as_bytes() == digits,
+        None => false,
+    }
+}
+
+/// Whether a text is what an offset adds to a unique id.
+fn is_offset(offset: Option<i64>, text: &[u8]) -> bool
+    ensures { result ≡ bytes_eq (offset_text offset) text.now }
+{
+    match offset {
+        Some(number) => is_mark(number, text),
+        None => text.is_empty(),
+    }
+}
+
+/// Whether a text is where a vector is, and what its offset adds.
+fn is_place(vector: &Vector, text: &[u8]) -> bool
+    ensures { result ≡ bytes_eq (vector.now.locator ++ offset_text vector.now.offset) text.now }
+{
+    let locator = vector.locator.as_str().as_bytes();
+    match text.strip_prefix(locator) {
+        Some(rest) => is_offset(vector.offset, rest),
+        None => false,
+    }
+}
+
+/// Whether a text is the unique id of a vector. It takes no memory.
+fn is_id(vector: &Vector, id: &str) -> bool
+    ensures { result ≡ bytes_eq (unique_id vector.now) id.now }
+{
+    let text = id.as_bytes();
+    let storage = vector.storage.as_str().as_bytes();
+    match text.strip_prefix(storage) {
+        Some(place) => is_place(vector, place),
+        None => false,
+    }
+}
+
+/// The value of a vector, among those of one path.
+fn of_vector<'a, V: Drop>(files: &'a ByName<V>, vector: &Vector) -> Option<&'a V>
+    ensures { option_copied result ≡ fin.get files.now (unique_id vector.now) }
+{
+    for (id, value) in files.entries() {
+        if is_id(vector, id.as_str()) {
+            return Some(value);
+        }
+    }
+    None
+}
+
+/// Takes the values of a path out.
+fn take_files<V: Drop>(marked: &mut ByName<ByName<V>>, alloc: Global, path: &str) -> ByName<V>
+    ensures value { result ≡ or_empty (fin.get marked.old path.now) }
+    ensures rest { marked.new ≡ fin.remove marked.old path.now }
+{
+    match marked.take(path) {
+        Some(files) => files,
+        None => ByName::new(alloc),
+    }
+}
+
+/// Gives a path and an id this value. Refused for want of memory alone; the values of the path are then lost.
+fn put<V: Drop>(
+    marked: &mut ByName<ByName<V>>,
+    alloc: Global,
+    path: &str,
+    id: Name,
+    value: V,
+) -> Result<(), AllocError>
+    ensures { OnOk result (ChangesAt marked.old marked.new path.now id (Some value)) }
+{
+    let mut files = take_files(marked, alloc, path);
+    files.insert(id, value)?;
+    marked.insert(Name::from_str(alloc, path)?, files)
+}
+
+/// Puts the values of a path back, if there are some.
+fn put_back<V: Drop>(
+    marked: &mut ByName<ByName<V>>,
+    alloc: Global,
+    path: &str,
+    files: ByName<V>,
+) -> Result<(), AllocError>
+    ensures { OnOk result (PutsBack marked.old marked.new path.now files) }
+{
+    if files.is_empty() {
+        return Ok(());
+    }
+    marked.insert(Name::from_str(alloc, path)?, files)
+}
+
+/// Takes the value of a path and an id away, if there is one. Refused for want of memory alone; the values of
+/// the path are then lost.
+fn strike<V: Drop>(
+    marked: &mut ByName<ByName<V>>,
+    alloc: Global,
+    path: &str,
+    id: &str,
+) -> Result<(), AllocError>
+    ensures { OnOk result (ChangesAt marked.old marked.new path.now id.now None) }
+{
+    let mut files = take_files(marked, alloc, path);
+    files.remove(id);
+    put_back(marked, alloc, path, files)
+}
+
+impl<V: Drop> ByFile<V> {
+    /// No values.
+    pub(crate) fn new(alloc: Global) -> ByFile<V>
+        ensures { result ≡ fin.empty }
+    {
+        ByFile {
+            alloc,
+            plain: ByName::new(alloc),
+            marked: ByName::new(alloc),
+        }
+    }
+
+    /// The value of a file. It takes no memory.
+    pub(crate) fn get(&self, key: Key<'_>) -> Option<&V>
+        ensures { option_copied result ≡ fin.get self.now (file_of_key key.entry) }
+    {
+        match key.vector {
+            None => self.get_plain(key.path),
+            Some(vector) => self.get_marked(key.path, vector),
+        }
+    }
+
+    fn get_plain(&self, path: &str) -> Option<&V>
+        ensures { option_copied result ≡ fin.get self.now (plain_file path.now) }
+    {
+        self.plain.get(path)
+    }
+
+    fn get_marked(&self, path: &str, vector: &Vector) -> Option<&V>
+        ensures { option_copied result ≡ fin.get self.now (marked_file path.now (unique_id vector.now)) }
+    {
+        match self.marked.get(path) {
+            Some(files) => of_vector(files, vector),
+            None => None,
+        }
+    }
+
+    /// Gives a file this value in place of an older one. Refused for want of memory alone.
+    pub(crate) fn insert(&mut self, key: Key<'_>, value: V) -> Result<(), AllocError>
+        ensures { OnOk result (self.new ≡ fin.insert self.old (file_of_key key.entry) value) }
+    {
+        match key.vector {
+            None => self.insert_plain(key.path, value),
+            Some(vector) => self.insert_marked(key.path, vector, value),
+        }
+    }
+
+    fn insert_plain(&mut self, path: &str, value: V) -> Result<(), AllocError>
+        ensures { OnOk result (self.new ≡ fin.insert self.old (plain_file path.now) value) }
+    {
+        self.plain.insert(Name::from_str(self.alloc, path)?, value)
+    }
+
+    fn insert_marked(&mut self, path: &str, vector: &Vector, value: V) -> Result<(), AllocError>
+        ensures { OnOk result (self.new ≡ fin.insert self.old (marked_file path.now (unique_id vector.now)) value) }
+    {
+        let id = vector.unique_id(self.alloc)?;
+        put(&mut self.marked, self.alloc, path, id, value)
+    }
+
+    /// Takes the value of a file away, if there is one. Refused for want of memory alone.
+    pub(crate) fn remove(&mut self, key: Key<'_>) -> Result<(), AllocError>
+        ensures { OnOk result (self.new ≡ fin.remove self.old (file_of_key key.entry)) }
+    {
+        match key.vector {
+            None => {
+                self.remove_plain(key.path);
+                Ok(())
+            }
+            Some(vector) => self.remove_marked(key.path, vector),
+        }
+    }
+
+    fn remove_plain(&mut self, path: &str)
+        ensures { self.new ≡ fin.remove self.old (plain_file path.now) }
+    {
+        self.plain.remove(path);
+    }
+
+    fn remove_marked(&mut self, path: &str, vector: &Vector) -> Result<(), AllocError>
+        ensures { OnOk result (self.new ≡ fin.remove self.old (marked_file path.now (unique_id vector.now))) }
+    {
+        let id = vector.unique_id(self.alloc)?;
+        strike(&mut self.marked, self.alloc, path, id.as_str())
+    }
+}
+
+impl<V: Drop> ByFile<V> {
+    ghost use Rattle.reconcile.specs.Walking.{left};
+
+    /// The values in the order of their files.
+    pub(crate) fn files(&self) -> FilesLeft<'_, V>
+        ensures { left result ≡ fin.values self.now }
+    {
+        FilesLeft::new(&self.plain, &self.marked)
+    }
+}
+
+impl<V: EqualCopy + Drop> ByFile<V> {
+    /// An equal map; refused for want of memory alone.
+    pub(crate) fn copy(&self) -> Result<ByFile<V>, AllocError>
+        ensures { IfOk result (λ n. n ≡ self.now) }
+    {
+        let plain = self.plain.copy()?;
+        let marked = self.marked.copy()?;
+        Ok(ByFile {
+            alloc: self.alloc,
+            plain,
+            marked,
+        })
+    }
+}
