@@ -6,8 +6,8 @@ ghost use Rattle.staged_commit.specs.Composed.{IsAppend, IsCreate};
 use crate::shorts::state;
 use action_types::{Add, Name, Names, Pairs, Vector};
 use staged_commit::{
-    Adds, ComposeError, Composed, Create, Domains, Intent, Level, Reads, Removes, compose,
-    compose_create,
+    Adds, ComposeError, Composed, Create, Domains, Intent, Level, Reads, Removes, compose_append,
+    compose_first,
 };
 use std::alloc::Global;
 use std::str;
@@ -125,7 +125,10 @@ fn appended(
     let log = format!(in alloc; "info {time}; protocol; meta {form}; txn A 0")?;
     let state = state(alloc, log.as_str())?;
     let intent = append(alloc, number)?;
-    said(alloc, &compose(alloc, &state, &intent, 2, 1000, limit))
+    said(
+        alloc,
+        &compose_append(alloc, &state, &intent, 2, 1000, limit),
+    )
 }
 
 /// What the append of two files of one path composes, where the table has this feature more than it needs.
@@ -133,13 +136,16 @@ fn marked(alloc: Global, feature: &str) -> Result<String, Fail> {
     let log = format!(in alloc; "info 1000; protocol {feature}; meta; txn A 0")?;
     let state = state(alloc, log.as_str())?;
     let intent = marked_append(alloc)?;
-    said(alloc, &compose(alloc, &state, &intent, 2, 1000, 1_000_000))
+    said(
+        alloc,
+        &compose_append(alloc, &state, &intent, 2, 1000, 1_000_000),
+    )
 }
 
 /// What a create composes under id 1 where the clock says 1000.
 fn created(alloc: Global, limit: u64) -> Result<String, Fail> {
     let create = create(alloc)?;
-    said(alloc, &compose_create(alloc, &create, 1, 1000, limit))
+    said(alloc, &compose_first(alloc, &create, 1, 1000, limit))
 }
 
 const APPENDED: &str = concat!(

@@ -14,3 +14,5 @@ mod rules;
 mod shorts;
 #[cfg(test)]
 mod times;
+#[cfg(test)]
+mod writes;

@@ -1,7 +1,7 @@
 //! The state of a list of commits, and what a plain search of the list finds.
 
 use crate::shorts::{self, add, domain, meta, path_of, protocol, remove, vector_of};
-use action_types::{Action, Info, Name, Txn};
+use action_types::{Action, Info, Name, Txn, Vector};
 use reconcile::{Key, State, plain};
 use std::alloc::{AllocError, Global};
 use std::test::Fail;
@@ -247,6 +247,11 @@ fn name_agrees(state: &State, commits: &[Vec<Action>], name: &str) -> bool {
         && state.domain(name).is_some() == plain::domain(commits, name).is_some()
 }
 
+fn key_of<'a>(path: &'a str, vector: &'a Option<Vector>) -> Key<'a> {
+    let vector = vector.as_ref();
+    Key { path, vector }
+}
+
 /// Whether the look-ups of a file in short are what the plain search finds.
 fn file_agrees(
     alloc: Global,
@@ -255,10 +260,7 @@ fn file_agrees(
     file: &str,
 ) -> Result<bool, Fail> {
     let vector = vector_of(alloc, file)?;
-    let key = Key {
-        path: path_of(file),
-        vector: vector.as_ref(),
-    };
+    let key = key_of(path_of(file), &vector);
     Ok(key_agrees(state, commits, key) && name_agrees(state, commits, file))
 }
 

@@ -169,6 +169,15 @@ fn number(word: &str) -> i64 {
     word.parse::<i64>().unwrap_or(0)
 }
 
+/// The time that a word writes, if there is one.
+fn time(word: &str) -> Option<i64> {
+    if word.is_empty() {
+        None
+    } else {
+        Some(number(word))
+    }
+}
+
 /// A file action: `add` and `same` of a file (without a change), `remove` and `keep` (without one). The file
 /// is a path, or a path, `#` and a vector.
 fn file_action(alloc: Global, kind: &str, path: &str, more: &str) -> Result<Action, Fail> {
@@ -184,7 +193,7 @@ fn file_action(alloc: Global, kind: &str, path: &str, more: &str) -> Result<Acti
             remove.change = false;
             Ok(Action::Remove(remove))
         }
-        _ => Ok(Action::Remove(remove(alloc, path, None)?)),
+        _ => Ok(Action::Remove(remove(alloc, path, time(more))?)),
     }
 }
 

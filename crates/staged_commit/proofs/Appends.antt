@@ -229,7 +229,7 @@ is-next last now time true h =
     subst (λ (t : ℤ). last <ℤ t) same (later last now (int_lt (last +ℤ pos 1) now) refl)
 is-next last now time false h = cc
 
-on-time : (last : Option ℤ) (now time : ℤ) → next_time last now ≡ Some time → not_after last (Some time) ≡ None
+pub on-time : (last : Option ℤ) (now time : ℤ) → next_time last now ≡ Some time → not_after last (Some time) ≡ None
 on-time None now time h = refl
 on-time (Some last) now time h =
     ap (λ b. if b then None else Some (broken.TimeNotAfter last)) (lt-true last time (is-next last now time (int_lt last end_of_time) h) (int_lt last time) refl)

@@ -3,3 +3,8 @@ pub mod Adds
 pub mod Composed
 pub mod Rules
 pub mod Answers
+pub mod Sorting
+pub mod Places
+pub mod Changes
+pub mod Writes
+pub mod WriteAnswers

@@ -27,8 +27,8 @@ use table_rules::check_next;
 ///
 /// The errors in their order: `Broken` names the first rule that its actions break as the next commit; the one on its time is not
 /// among them. `TimeEnd` comes exactly where none is broken and there is no next time, `TooLarge` where none is broken and its text
-/// has more bytes than the limit. Only appends are composed yet.
-pub fn compose(
+/// has more bytes than the limit. It composes appends alone, and judges the rule on their number too.
+pub fn compose_append(
     alloc: Global,
     state: &State,
     intent: &Intent,

@@ -1,6 +1,6 @@
 -- An append is judged by the commits that were ratified since it took the table in.
 use Rattle.std.proofs.Common.{◌≡◌, ◌<◌, ◌≤◌, ◌+◌, ◌<ℤ◌, ℕ, ℤ, Bool, IsTrue, List, [], ◌∷◌, ◌++◌, length, take, drop, refl, sym, ◌∙◌, ap, subst, arith, append_assoc, append-nil, get_or}
-use Rattle.std.specs.Prelude.{Option, Some, None, option_map, IfSome, Vec}
+use Rattle.std.specs.Prelude.{Option, Some, None, option_map, IfSome, Vec, Result, Ok, Err, IsErrAnd}
 use Rattle.std.specs.declared.alloc.Global.{Global}
 use Rattle.std.specs.List.{filter_map}
 use Rattle.std.proofs.lemmas.List.{take-append-drop, take-append-le, drop-append-le, length-take-le, length-drop, length-map, map-append, take_all, take_more}
@@ -26,10 +26,13 @@ use Rattle.table_model.specs.Log.{Commit, history}
 use Rattle.snapshot_load.specs.declared.answers.Winners.{Winners}
 use Rattle.snapshot_load.specs.Snapshots.{AreWinners}
 use Rattle.writer_txn.specs.declared.attempts.Front.{Front}
+use Rattle.writer_txn.specs.declared.attempts.Outcome.{Outcome}
+use Rattle.writer_txn.specs.declared.errors.WriteError.{WriteError}
+use Rattle.writer_txn.specs.declared.errors.WriteError.TheVariants as failed
 use Rattle.writer_txn.specs.Fronts.{before, above, first_clash, IsNewer}
 use Rattle.writer_txn.specs.Writing.{IsAlready, IsConflict}
 use Rattle.writer_txn.specs.Judging.{IsAtOrAbove}
-use Rattle.writer_txn.specs.Trying.{IsFrontOf}
+use Rattle.writer_txn.specs.Trying.{IsFrontOf, AttemptStands}
 
 -- ---- an append has read nothing, so it looks at no live file
 
@@ -245,6 +248,12 @@ caught_conflict tells intent f w state log place winner named key vector none fr
           clash_found intent f log w.latest (commits_of w.commits.items) (Some (place, (named, key, vector))) none base front.within last (won.actions t) (front.conflicts t) clash
           ∙ ap (λ (v : ℕ). let p : Option (ℕ × Said) = Some (v, (named, key, vector)) in p) (sym at);
     }
+
+-- memory was short
+pub memory_stands : (tells : Bool) (intent : Intent) (r : Result Outcome WriteError) (reading : ℤ) (last : ℕ) (log : List Commit)
+    → IsErrAnd r (λ e. e ≡ failed.Memory) → AttemptStands tells intent r reading last log
+memory_stands tells intent (Ok a) reading last log h = absurd h
+memory_stands tells intent (Err e) reading last log h = subst (λ (x : WriteError). AttemptStands tells intent (Err x) reading last log) (sym h) tt
 
 -- ---- one more commit applied
 

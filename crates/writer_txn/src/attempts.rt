@@ -23,7 +23,7 @@ use conflict_rules::{Clash, first_conflict_of};
 use lake_io::{Clock, Ids};
 use reconcile::State;
 use snapshot_load::{Winners, winners};
-use staged_commit::{ComposeError, Intent, compose};
+use staged_commit::{ComposeError, Intent, compose_append};
 use std::alloc::{AllocError, Global};
 use table_model::Steps;
 
@@ -194,7 +194,7 @@ pub(crate) fn attempt<T: Steps, C: Clock, U: Ids>(
 {
     let id = ids.next();
     let now = clock.now_ms();
-    let commit = match compose(alloc, &front.state, what, id, now, limits.bytes) {
+    let commit = match compose_append(alloc, &front.state, what, id, now, limits.bytes) {
         Ok(commit) => commit,
         Err(error) => return Err(refused(front.base, error)),
     };

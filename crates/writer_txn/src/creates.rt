@@ -12,7 +12,7 @@ use crate::answers::Written;
 use crate::errors::WriteError;
 use crate::proposing::{Proposed, propose};
 use lake_io::{Clock, Ids};
-use staged_commit::{ComposeError, Composed, Create, compose_create};
+use staged_commit::{ComposeError, Composed, Create, compose_first};
 use std::alloc::Global;
 use table_model::Steps;
 
@@ -29,7 +29,7 @@ fn composed(
     ensures ok { IfOk result (λ c. IsComposed [] (composed_create what.now id now) now limit c) }
     ensures err { IfErr result (λ e. CreateRefused what.now id now limit e) }
 {
-    match compose_create(alloc, what, id, now, limit) {
+    match compose_first(alloc, what, id, now, limit) {
         Ok(commit) => Ok(commit),
         Err(ComposeError::Broken(why)) => Err(WriteError::Broken { base: None, why }),
         Err(ComposeError::TimeEnd { .. }) => unreachable!(),

@@ -5,16 +5,10 @@ use Rattle.action_types.specs.declared.actions.Action.{Action}
 use Rattle.action_json.specs.Commit.{IsCommit}
 use Rattle.table_rules.specs.Broken.{Tells, after, first_broken}
 use Rattle.staged_commit.specs.Composed.{composed_create}
-use Rattle.staged_commit.proofs.Commits.{composed-commit}
-use Rattle.staged_commit.proofs.Written.{composed-alike, judged-alike, refused-alike}
+use Rattle.staged_commit.proofs.Composing.{reads-back, text-on}
+use Rattle.staged_commit.proofs.Readable.{create-commit}
+use Rattle.staged_commit.proofs.Written.{judged-alike, refused-alike}
 use Rattle.staged_commit.proofs.create.compose_create.Goals as goal
-
-pub written-requires : goal.written-requires
-written-requires c =
-    let P : List Action → Type 0 = λ l. IsCommit l in
-    let Q : ℤ → Type 0 = λ t. IsCommit (composed_create c.args.create.now c.args.id t) in
-    subst P (sym c.in_ok-actions.ensures)
-    (subst Q (sym (to_z-of_z w64 c.args.now c.ranges.now)) (composed-commit c.args.create.now c.args.id c.args.now c.requires.now c.requires.valid))
 
 pub returns-in_err-judged-clause-err : goal.returns-in_err-judged-clause-err
 returns-in_err-judged-clause-err c =
@@ -33,7 +27,7 @@ returns-clause-ok c =
     c.in_ok-actions.ensures ∙ ap (composed_create c.args.create.now c.args.id) (to_z-of_z w64 c.args.now c.ranges.now) in
     let rules : first_broken [] c.in_ok-actions.actions.items ≡ None =
     c.in_ok-judged.ensures (first_broken [] c.in_ok-actions.actions.items) (subst P c.deref.ensures.value c.check_create.ensures) in
-    composed-alike (after []) c.in_ok-actions.actions.items _ _ c.args.now c.args.limit c.written.result made (to_z-of_z w64 c.args.now c.ranges.now) rules c.written.ensures.ok
+    text-on (after []) c.in_ok-actions.actions.items _ _ c.args.now c.args.limit c.limited.result made (to_z-of_z w64 c.args.now c.ranges.now) rules c.limited.ensures.ok
 
 pub returns-clause-err : goal.returns-clause-err
 returns-clause-err c =
@@ -42,4 +36,12 @@ returns-clause-err c =
     c.in_ok-actions.ensures ∙ ap (composed_create c.args.create.now c.args.id) (to_z-of_z w64 c.args.now c.ranges.now) in
     let rules : first_broken [] c.in_ok-actions.actions.items ≡ None =
     c.in_ok-judged.ensures (first_broken [] c.in_ok-actions.actions.items) (subst P c.deref.ensures.value c.check_create.ensures) in
-    refused-alike (after []) c.in_ok-actions.actions.items _ c.args.limit c.written.result made rules c.written.ensures.err
+    refused-alike (after []) c.in_ok-actions.actions.items _ c.args.limit c.limited.result made rules c.limited.ensures.err
+
+pub returns-clause-reads_back : goal.returns-clause-reads_back
+returns-clause-reads_back c = λ texts.
+    let P : List Action → Type 0 = λ l. IsCommit l in
+    let made : c.in_ok-actions.actions.items ≡ composed_create c.args.create.now c.args.id c.args.now =
+    c.in_ok-actions.ensures ∙ ap (composed_create c.args.create.now c.args.id) (to_z-of_z w64 c.args.now c.ranges.now) in
+    reads-back c.in_ok-actions.actions.items _ c.args.limit c.limited.result
+    (subst P (sym made) (create-commit c.args.create.now c.args.id c.args.now c.requires.now texts)) c.limited.ensures.ok c.limited.ensures.written

@@ -7,7 +7,7 @@ use Rattle.action_types.specs.Files.{id_of}
 use Rattle.reconcile.specs.Standing.{StandsFor, live_in}
 use Rattle.conflict_rules.specs.Conflict.{placed, first_of, conflict_by, commits_of}
 use Rattle.writer_txn.specs.Writing.{IsAlready, IsConflict}
-use Rattle.writer_txn.proofs.Judgements.{caught_front, caught_already, caught_conflict, place_within}
+use Rattle.writer_txn.proofs.Judgements.{caught_front, caught_already, caught_conflict, memory_stands, place_within}
 use Rattle.writer_txn.proofs.attempts.judged.Goals as goal
 
 pub overflow_add-result-in-Some-lowest : goal.overflow_add-result-in-Some-lowest
@@ -26,6 +26,14 @@ returns-in-Some-clause-stands c = λ tells log reading last front won.
     (caught_already tells _ _ _ c.in_ok-state.state log _ front won
     (λ l h. subst (λ (vs : List (Vec Action Global)). StandsFor c.in_ok-state.state (l ++ commits_of vs)) c.as_slice-2.ensures.value (c.in_ok-state.ensures l h))
     c.in-Some.ensures)
+
+pub returns-in_err-key-in-Some-lowest-clause-stands : goal.returns-in_err-key-in-Some-lowest-clause-stands
+returns-in_err-key-in-Some-lowest-clause-stands c = λ tells log reading last front won.
+    memory_stands tells _ c.from_residual-in_err-key-in-Some-lowest.result reading last log c.from_residual-in_err-key-in-Some-lowest.ensures.1
+
+pub returns-in_err-vector-in-Some-lowest-clause-stands : goal.returns-in_err-vector-in-Some-lowest-clause-stands
+returns-in_err-vector-in-Some-lowest-clause-stands c = λ tells log reading last front won.
+    memory_stands tells _ c.from_residual-in_err-vector-in-Some-lowest.result reading last log c.from_residual-in_err-vector-in-Some-lowest.ensures.1
 
 pub returns-in-Some-lowest-clause-stands : goal.returns-in-Some-lowest-clause-stands
 returns-in-Some-lowest-clause-stands c = λ tells log reading last front won.

@@ -5,7 +5,7 @@ use Rattle.table_rules.proofs.Views.{seen-after}
 use Rattle.table_rules.specs.Seen.{seen}
 use Rattle.staged_commit.specs.Answers.{IsAppendRefusedOn, IsAppendedOn}
 use Rattle.staged_commit.proofs.Answering.{passed-if}
-use Rattle.staged_commit.proofs.append.compose.Goals as goal
+use Rattle.staged_commit.proofs.append.compose_append.Goals as goal
 
 pub returns-clause-ok : goal.returns-clause-ok
 returns-clause-ok c = λ log h.
