@@ -1,6 +1,6 @@
 -- The versions stay as many, and fewer answers are left each time.
 use Rattle.std.proofs.Common.{◌≡◌}
-use Rattle.meaning_tests.proofs.times.search.Given as goal
+use Rattle.replay_tests.proofs.times.search.Given as goal
 
 abbrev pub invariant-loop-version : goal.invariant-loop-version
 invariant-loop-version l = l.halving.versions ≡ l.len

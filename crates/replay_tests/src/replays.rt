@@ -1,6 +1,6 @@
 //! The state of a list of commits, and what a plain search of the list finds.
 
-use crate::shorts::{self, add, domain, meta, path_of, protocol, remove, vector_of};
+use commit_shorts::{add, domain, meta, path_of, protocol, remove, vector_of};
 use action_types::{Action, Info, Name, Txn, Vector};
 use reconcile::{Key, State, plain};
 use std::alloc::{AllocError, Global};
@@ -420,7 +420,7 @@ fn listed_domains(alloc: Global, state: &State) -> Result<String, Fail> {
 
 /// Whether the state of a row's commits is listed as the row says.
 fn row_holds(alloc: Global, row: &Row) -> Result<bool, Fail> {
-    let state = shorts::state(alloc, row.log)?;
+    let state = commit_shorts::state(alloc, row.log)?;
     Ok(
         listed_files(alloc, &state)?.as_str() == row.files
             && listed_tombstones(alloc, &state)?.as_str() == row.removed

@@ -1,6 +1,6 @@
 //! The first conflict of a write with the commits that were ratified before it, and the least of names and of files.
 
-use crate::shorts::{add, commit, domain, names, remove, state};
+use commit_shorts::{add, commit, domain, names, remove, state};
 use action_types::{Key, Name};
 use conflict_rules::{
     Adds, Clash, Domains, Intent, Level, Reads, Removes, first_conflict, first_conflict_of,

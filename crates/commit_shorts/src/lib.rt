@@ -1,14 +1,15 @@
-//! Commits in short: an action is a few words, actions stand with a `;` between them, and commits with a `/` between them.
+//! Commits in short, for tests: an action is a few words, actions stand with a `;` between them, and commits with a `/` between them.
+//! Nothing is promised of what is read.
+#![tactic(auto)]
 
 use action_types::{
     Action, Add, Domain, Format, Info, Meta, Name, Names, Pairs, Protocol, Remove, Txn, Vector,
 };
 use reconcile::State;
-use std::alloc::Global;
-use std::test::Fail;
+use std::alloc::{AllocError, Global};
 
 /// The words of a text as a list of names.
-pub fn names(alloc: Global, text: &str) -> Result<Names, Fail> {
+pub fn names(alloc: Global, text: &str) -> Result<Names, AllocError> {
     let mut list = Names::new(alloc);
     for word in text.split_whitespace() {
         list.push(Name::from_str(alloc, word)?)?;
@@ -22,7 +23,7 @@ pub fn protocol(
     versions: (i64, i64),
     readers: &str,
     writers: &str,
-) -> Result<Protocol, Fail> {
+) -> Result<Protocol, AllocError> {
     Ok(Protocol {
         reader: versions.0,
         writer: versions.1,
@@ -32,14 +33,14 @@ pub fn protocol(
 }
 
 /// Adds a property that is `true`.
-fn switch_on(alloc: Global, pairs: &mut Pairs, name: &str) -> Result<(), Fail> {
+fn switch_on(alloc: Global, pairs: &mut Pairs, name: &str) -> Result<(), AllocError> {
     let on = Name::from_str(alloc, "true")?;
     pairs.push(Name::from_str(alloc, name)?, Some(on))?;
     Ok(())
 }
 
 /// The properties: `off` lacks that of in-commit timestamps.
-fn configuration(alloc: Global, form: &str) -> Result<Pairs, Fail> {
+fn configuration(alloc: Global, form: &str) -> Result<Pairs, AllocError> {
     let mut pairs = Pairs::new(alloc);
     if form == "appendOnly" {
         switch_on(alloc, &mut pairs, "delta.appendOnly")?;
@@ -58,7 +59,7 @@ fn schema(form: &str) -> &'static str {
     }
 }
 
-fn parquet(alloc: Global) -> Result<Format, Fail> {
+fn parquet(alloc: Global) -> Result<Format, AllocError> {
     let provider = Name::from_str(alloc, "parquet")?;
     Ok(Format {
         provider,
@@ -67,7 +68,7 @@ fn parquet(alloc: Global) -> Result<Format, Fail> {
 }
 
 /// A metaData, with a partition column where its form is `columns`.
-pub fn meta(alloc: Global, form: &str, column: &str) -> Result<Meta, Fail> {
+pub fn meta(alloc: Global, form: &str, column: &str) -> Result<Meta, AllocError> {
     let configuration = configuration(alloc, form)?;
     let format = parquet(alloc)?;
     let id = Name::from_str(alloc, "t1")?;
@@ -94,14 +95,14 @@ pub fn path_of(file: &str) -> &str {
 }
 
 /// The vector of a file in short, if it has one: a locator, or a locator, `@` and an offset.
-pub fn vector_of(alloc: Global, file: &str) -> Result<Option<Vector>, Fail> {
+pub fn vector_of(alloc: Global, file: &str) -> Result<Option<Vector>, AllocError> {
     match file.split_once('#') {
         Some((_, text)) => Ok(Some(vector(alloc, text)?)),
         None => Ok(None),
     }
 }
 
-fn vector(alloc: Global, text: &str) -> Result<Vector, Fail> {
+fn vector(alloc: Global, text: &str) -> Result<Vector, AllocError> {
     let storage = Name::from_str(alloc, "u")?;
     let locator = Name::from_str(alloc, text.split('@').next().unwrap_or(""))?;
     Ok(Vector {
@@ -114,7 +115,7 @@ fn vector(alloc: Global, text: &str) -> Result<Vector, Fail> {
 }
 
 /// A domain with a configuration.
-pub fn domain(alloc: Global, name: &str, text: &str, removed: bool) -> Result<Domain, Fail> {
+pub fn domain(alloc: Global, name: &str, text: &str, removed: bool) -> Result<Domain, AllocError> {
     let configuration = Name::from_str(alloc, text)?;
     let domain = Name::from_str(alloc, name)?;
     Ok(Domain {
@@ -125,7 +126,7 @@ pub fn domain(alloc: Global, name: &str, text: &str, removed: bool) -> Result<Do
 }
 
 /// An add of a file in short, of so many bytes.
-pub fn add(alloc: Global, file: &str, size: i64) -> Result<Add, Fail> {
+pub fn add(alloc: Global, file: &str, size: i64) -> Result<Add, AllocError> {
     let path = Name::from_str(alloc, path_of(file))?;
     let vector = vector_of(alloc, file)?;
     Ok(Add {
@@ -141,7 +142,7 @@ pub fn add(alloc: Global, file: &str, size: i64) -> Result<Add, Fail> {
 }
 
 /// An add of a file of 10 bytes, with a value for a column if one is named.
-fn add_with(alloc: Global, path: &str, column: &str) -> Result<Add, Fail> {
+fn add_with(alloc: Global, path: &str, column: &str) -> Result<Add, AllocError> {
     let mut add = add(alloc, path, 10)?;
     if !column.is_empty() {
         add.values.push(Name::from_str(alloc, column)?, None)?;
@@ -150,7 +151,7 @@ fn add_with(alloc: Global, path: &str, column: &str) -> Result<Add, Fail> {
 }
 
 /// A remove of a file in short, at a time if one is given.
-pub fn remove(alloc: Global, file: &str, deleted: Option<i64>) -> Result<Remove, Fail> {
+pub fn remove(alloc: Global, file: &str, deleted: Option<i64>) -> Result<Remove, AllocError> {
     let path = Name::from_str(alloc, path_of(file))?;
     let vector = vector_of(alloc, file)?;
     Ok(Remove {
@@ -180,7 +181,7 @@ fn time(word: &str) -> Option<i64> {
 
 /// A file action: `add` and `same` of a file (without a change), `remove` and `keep` (without one). The file
 /// is a path, or a path, `#` and a vector.
-fn file_action(alloc: Global, kind: &str, path: &str, more: &str) -> Result<Action, Fail> {
+fn file_action(alloc: Global, kind: &str, path: &str, more: &str) -> Result<Action, AllocError> {
     match kind {
         "add" => Ok(Action::Add(add_with(alloc, path, more)?)),
         "same" => {
@@ -199,7 +200,7 @@ fn file_action(alloc: Global, kind: &str, path: &str, more: &str) -> Result<Acti
 
 /// A protocol with one more feature than a table needs, if one is named: among the writers' and, where it is
 /// `deletionVectors`, among the readers' too.
-fn table_protocol(alloc: Global, feature: &str) -> Result<Protocol, Fail> {
+fn table_protocol(alloc: Global, feature: &str) -> Result<Protocol, AllocError> {
     let writers = format!(in alloc; "catalogManaged inCommitTimestamp {feature}")?;
     let readers = if feature == "deletionVectors" {
         "catalogManaged deletionVectors"
@@ -210,7 +211,7 @@ fn table_protocol(alloc: Global, feature: &str) -> Result<Protocol, Fail> {
 }
 
 /// The action that a few words name.
-fn action(alloc: Global, text: &str) -> Result<Action, Fail> {
+fn action(alloc: Global, text: &str) -> Result<Action, AllocError> {
     let mut words = text.split_whitespace();
     let kind = words.next().unwrap_or("");
     let first = words.next().unwrap_or("");
@@ -234,7 +235,7 @@ fn action(alloc: Global, text: &str) -> Result<Action, Fail> {
 }
 
 /// The actions that a text names.
-pub fn commit(alloc: Global, text: &str) -> Result<Vec<Action>, Fail> {
+pub fn commit(alloc: Global, text: &str) -> Result<Vec<Action>, AllocError> {
     let mut actions = Vec::new(alloc);
     for part in text.split(';') {
         if !part.is_empty() {
@@ -245,13 +246,13 @@ pub fn commit(alloc: Global, text: &str) -> Result<Vec<Action>, Fail> {
 }
 
 /// The state after one more commit.
-pub fn applied(alloc: Global, state: State, text: &str) -> Result<State, Fail> {
+pub fn applied(alloc: Global, state: State, text: &str) -> Result<State, AllocError> {
     let commit = commit(alloc, text)?;
     Ok(state.apply(commit.as_slice())?)
 }
 
 /// The state of one or two commits.
-pub fn state(alloc: Global, text: &str) -> Result<State, Fail> {
+pub fn state(alloc: Global, text: &str) -> Result<State, AllocError> {
     let first = text.split('/').next().unwrap_or("");
     let state = applied(alloc, State::empty(alloc), first)?;
     match text.split_once('/') {

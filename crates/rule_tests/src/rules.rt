@@ -1,6 +1,6 @@
 //! What a commit breaks first of the rules of a next commit.
 
-use crate::shorts::{commit, meta, protocol, state};
+use commit_shorts::{commit, meta, protocol, state};
 use action_types::{Action, Info};
 use std::alloc::Global;
 use std::test::Fail;
