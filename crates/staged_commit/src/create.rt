@@ -48,7 +48,8 @@ pub fn compose_create(
     ensures ok { IfOk result (λ c. IsTextOn (after []) (composed_create create.now id now) now limit c) }
     ensures err { IfErr result (λ e. IsRefused [] (composed_create create.now id now) limit e) }
     // The text is read back where the given properties are texts in byte order of their names.
-    ensures reads_back { are_texts create.now.configuration ≡ true → IfOk result (λ c. outcome c.bytes.items ≡ Ok c.actions.items) }
+    ensures reads_back { are_texts create.now.configuration ≡ true →
+        IfOk result (λ c. outcome c.bytes.items ≡ Ok c.actions.items) }
 {
     let actions = actions_of(alloc, create, id, now)?;
     judged(check_create(alloc, &actions))?;

@@ -34,27 +34,31 @@ pub fn an_append_stays_within_the_rules()
 /// conflicts with it, under whatever id and at whatever time.
 pub fn a_write_stays_within_the_rules()
     ensures { (intent : Intent) (base log winners : Log) (version : ℕ) →
-        first_conflict intent base version winners ≡ None → KeepsRulesAfter log intent → KeepsRulesAfter (log ++ winners) intent }
+        first_conflict intent base version winners ≡ None → KeepsRulesAfter log intent →
+        KeepsRulesAfter (log ++ winners) intent }
 {}
 
 /// A law: a write that breaks no rule after a log, but for those on time and number, breaks none at all at the next time, where its
 /// number is after the recorded one of its application.
 pub fn a_write_with_a_later_number_is_a_next_commit()
     ensures { (log : Log) (intent : Intent) (id : ℕ) (now time : ℤ) →
-        KeepsRulesAfter log intent → next_time (time_of_log log) now ≡ Some time → late_for intent.app intent.number (number_at intent.app log) ≡ None →
+        KeepsRulesAfter log intent → next_time (time_of_log log) now ≡ Some time →
+        late_for intent.app intent.number (number_at intent.app log) ≡ None →
         first_broken log (composed_write (meta_of_log log) intent id time) ≡ None }
 {}
 
 /// A law: the text that a write composes has the same length under every id.
 pub fn the_id_of_a_write_does_not_change_its_length()
     ensures { (old : Option Meta) (intent : Intent) (id other : ℕ) (time : ℤ) →
-        length (canonical_text (composed_write old intent id time)) ≡ length (canonical_text (composed_write old intent other time)) }
+        length (canonical_text (composed_write old intent id time))
+        ≡ length (canonical_text (composed_write old intent other time)) }
 {}
 
 /// A law: the text that a create composes has the same length under every id.
 pub fn the_id_of_a_create_does_not_change_its_length()
     ensures { (create : Create) (id other : ℕ) (time : ℤ) →
-        length (canonical_text (composed_create create id time)) ≡ length (canonical_text (composed_create create other time)) }
+        length (canonical_text (composed_create create id time))
+        ≡ length (canonical_text (composed_create create other time)) }
 {}
 
 /// A law: in the contents of a write each domain is below the next in byte order of their names, and each removed and each added file

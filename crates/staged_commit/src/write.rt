@@ -44,7 +44,8 @@ pub fn compose(
     // After every log that the state stands for.
     ensures in_log { (log : Log) → StandsFor state.now log → Composes (after log) intent.now id now limit result }
     // The text of what a request may ask for, of a table whose metadata a commit may have, is read back.
-    ensures reads_back { IsReadable (meta_in state.now) intent.now → IfOk result (λ c. outcome c.bytes.items ≡ Ok c.actions.items) }
+    ensures reads_back { IsReadable (meta_in state.now) intent.now →
+        IfOk result (λ c. outcome c.bytes.items ≡ Ok c.actions.items) }
 {
     compose_on(alloc, state, intent, id, now, limit)
 }
@@ -60,7 +61,8 @@ fn compose_on(
 ) -> Result<Composed, ComposeError>
     requires now { pos 0 ≤ℤ now }
     ensures in_state { Composes (seen state.now) intent.now id now limit result }
-    ensures reads_back { IsReadable (meta_in state.now) intent.now → IfOk result (λ c. outcome c.bytes.items ≡ Ok c.actions.items) }
+    ensures reads_back { IsReadable (meta_in state.now) intent.now →
+        IfOk result (λ c. outcome c.bytes.items ≡ Ok c.actions.items) }
 {
     match next_time(state.time(), now) {
         Ok(time) => compose_at(alloc, state, intent, id, time, limit),
@@ -84,7 +86,8 @@ fn compose_at(
     requires later { not_after (time_in state.now) (Some time) ≡ None }
     ensures ok { IfOk result (λ c. IsWrittenAt (seen state.now) intent.now id time limit c) }
     ensures err { IfErr result (λ e. RefusesAt (seen state.now) intent.now id time limit e) }
-    ensures reads_back { IsReadable (meta_in state.now) intent.now → IfOk result (λ c. outcome c.bytes.items ≡ Ok c.actions.items) }
+    ensures reads_back { IsReadable (meta_in state.now) intent.now →
+        IfOk result (λ c. outcome c.bytes.items ≡ Ok c.actions.items) }
 {
     let actions = actions_at(alloc, state, intent, id, time)?;
     limited(alloc, actions, time, limit)
