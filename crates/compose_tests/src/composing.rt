@@ -3,8 +3,8 @@
 ghost use Rattle.std.specs.Prelude.{◌≡◌, pos, [], ◌∷◌, IfOk, None, codes, true};
 ghost use Rattle.staged_commit.specs.Composed.{IsAppend, IsCreate};
 
-use commit_shorts::state;
 use action_types::{Add, Name, Names, Pairs, Vector};
+use commit_shorts::state;
 use staged_commit::{
     Adds, ComposeError, Composed, Create, Domains, Intent, Level, Reads, Removes, compose_append,
     compose_first,

@@ -1,7 +1,7 @@
 //! What any write and any create compose, to the byte, and why not.
 
-use commit_shorts::{add, commit, names, state};
 use action_types::{Action, Add, Domain, Name, Names, Pairs, Remove};
+use commit_shorts::{add, commit, names, state};
 use staged_commit::{
     Adds, Change, ComposeError, Composed, Create, Domains, Intent, Level, Reads, Removes, compose,
     compose_create,

@@ -1,7 +1,7 @@
 //! The state of a list of commits, and what a plain search of the list finds.
 
-use commit_shorts::{add, domain, meta, path_of, protocol, remove, vector_of};
 use action_types::{Action, Info, Name, Txn, Vector};
+use commit_shorts::{add, domain, meta, path_of, protocol, remove, vector_of};
 use reconcile::{Key, State, plain};
 use std::alloc::{AllocError, Global};
 use std::test::Fail;

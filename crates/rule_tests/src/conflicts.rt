@@ -1,7 +1,7 @@
 //! The first conflict of a write with the commits that were ratified before it, and the least of names and of files.
 
-use commit_shorts::{add, commit, domain, names, remove, state};
 use action_types::{Key, Name};
+use commit_shorts::{add, commit, domain, names, remove, state};
 use conflict_rules::{
     Adds, Clash, Domains, Intent, Level, Reads, Removes, first_conflict, first_conflict_of,
 };

@@ -1,7 +1,7 @@
 //! What a commit breaks first of the rules of a next commit.
 
-use commit_shorts::{commit, meta, protocol, state};
 use action_types::{Action, Info};
+use commit_shorts::{commit, meta, protocol, state};
 use std::alloc::Global;
 use std::test::Fail;
 use table_rules::{Broken, check_create, check_next};

@@ -12,3 +12,4 @@ mod Readable
 mod Rising
 mod Lengths
 mod Composing
+mod Once

@@ -2,7 +2,7 @@
 --     have_own_files adds      no file stands twice
 --     with_add add adds        the adds with one more, before the first of a later file
 --     adds_in_order adds       the adds in the order of their files, put in one after the other
-use Rattle.std.specs.Prelude.{ℕ, List, [], ◌∷◌, ◌++◌, ◌&&◌, Bool, true, not, fold, map, if◌then◌else◌}
+use Rattle.std.specs.Prelude.{List, [], ◌∷◌, ◌++◌, ◌&&◌, Bool, true, not, fold, map, if◌then◌else◌}
 use Rattle.std.specs.List.{list_any}
 use Rattle.std.specs.List.Sorted.{IsPermutation, IsStrictlySortedBy}
 use Rattle.std.specs.Ordering.{is_lt}

@@ -3,7 +3,6 @@ use Rattle.std.specs.Prelude.{◌≡◌, ℕ, ℤ, ◌<◌, ◌≤◌, List, len
 use Rattle.action_types.specs.declared.actions.Action.{Action}
 use Rattle.action_json.specs.Commit.{canonical_text}
 use Rattle.commit_timestamps.specs.Times.{end_of_time, next_time}
-use Rattle.conflict_rules.specs.Conflict.{first_conflict}
 use Rattle.conflict_rules.specs.declared.intent.Intent.{Intent}
 use Rattle.reconcile.specs.Replay.{Log}
 use Rattle.table_rules.specs.Broken.{Before, after, broken_by}

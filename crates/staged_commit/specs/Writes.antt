@@ -1,6 +1,6 @@
 -- What a write composes, at a time and under the id of the staged commit (Delta protocol, "Actions"): the commitInfo, the protocol and the
 -- metaData of a change, the txn, domains by name, removes by file, adds by file.
-use Rattle.std.specs.Prelude.{◌≡◌, ℕ, ℤ, ◌&&◌, not, true, Bool, List, [], ◌∷◌, ◌++◌, map, Option, Some, None}
+use Rattle.std.specs.Prelude.{◌≡◌, ℕ, ℤ, not, true, Bool, List, [], ◌∷◌, ◌++◌, map, Option, Some, None}
 use Rattle.std.specs.List.{list_all, list_any}
 use Rattle.std.specs.List.Sorted.{IsPermutation, IsStrictlySortedBy}
 use Rattle.std.specs.Str.{bytes_eq}
@@ -12,7 +12,7 @@ use Rattle.action_types.specs.declared.actions.Add.{Add}
 use Rattle.action_types.specs.declared.actions.Domain.{Domain}
 use Rattle.action_types.specs.declared.actions.Meta.{Meta}
 use Rattle.action_types.specs.declared.actions.Remove.{Remove}
-use Rattle.action_types.specs.Files.{File, file_cmp, file_of_add, file_of_remove, name_cmp, same_file}
+use Rattle.action_types.specs.Files.{file_cmp, file_of_add, file_of_remove, name_cmp, same_file}
 use Rattle.action_fields.specs.Types.{Pair}
 use Rattle.action_fields.specs.Valid.{are_texts, has_valid_fields, is_valid_meta}
 use Rattle.conflict_rules.specs.declared.intent.Change.{Change}

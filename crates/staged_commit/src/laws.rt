@@ -1,5 +1,5 @@
 //! Laws on what is composed: functions with empty bodies.
-ghost use Rattle.std.specs.Prelude.{◌≡◌, ℕ, ℤ, List, ◌++◌, length, Option, None, Some, true};
+ghost use Rattle.std.specs.Prelude.{◌≡◌, ℕ, ℤ, List, ◌++◌, ◌∷◌, codes, length, Option, None, Some, true};
 ghost use Rattle.action_json.specs.Commit.{canonical_text};
 ghost use Rattle.action_types.specs.declared.actions.Meta.{Meta};
 ghost use Rattle.commit_timestamps.specs.Times.{next_time};
@@ -13,7 +13,10 @@ ghost use Rattle.conflict_rules.specs.Conflict.{first_conflict};
 ghost use Rattle.conflict_rules.specs.declared.intent.Intent.{Intent};
 ghost use Rattle.reconcile.specs.Replay.{Log};
 ghost use Rattle.staged_commit.specs.Adds.{IsInOrder, adds_in_order, have_own_files};
-ghost use Rattle.staged_commit.specs.Composed.{composed_append, composed_create};
+ghost use Rattle.staged_commit.specs.Composed.{asked_features, composed_append, composed_create, features_for};
+ghost use Rattle.staged_commit.specs.Names.{HasEachOnce, HasPut};
+ghost use Rattle.staged_commit.specs.Changes.{put_pairs};
+ghost use Rattle.action_fields.specs.Types.{Pair};
 ghost use Rattle.staged_commit.specs.Rules.{broken_but_time};
 
 /// A law: adds of which no file stands twice are the same adds in order, and there each file is below the next: by path, under one
@@ -65,4 +68,19 @@ pub fn the_id_of_a_create_does_not_change_its_length()
 /// below the next in the order of files, where none stands twice; and they are the same domains, removes and adds.
 pub fn contents_stand_in_order()
     ensures { (intent : Intent) → IsWriteRequest intent → HasContentsInOrder intent }
+{}
+
+/// A law: a composed protocol has the features that every table has and those that were asked for, each once in byte order, and no
+/// other feature.
+pub fn features_stand_once_in_byte_order()
+    ensures { (asked : Option (List (List ℕ))) →
+        HasEachOnce
+        (codes "catalogManaged" ∷ codes "inCommitTimestamp" ∷ asked_features asked)
+        (features_for asked) }
+{}
+
+/// A law: a changed configuration has each given property (of several of one name the last) and the old ones of other names, in
+/// byte order of the names where the old ones stand so.
+pub fn given_properties_are_put_and_the_others_stay()
+    ensures { (given old : List Pair) → HasPut given old (put_pairs given old) }
 {}
