@@ -102,10 +102,8 @@ fn said(alloc: Global, clash: Option<Clash>) -> Result<String, Fail> {
 
 /// The base: `a`, `b` and `c` with a vector are live, and `gone` is a tombstone.
 fn base(alloc: Global) -> Result<State, Fail> {
-    state(
-        alloc,
-        "info; protocol; meta; add a; add b; add c#x1@4; add gone/info; remove gone",
-    )
+    let log = "info; protocol; meta; add a; add b; add c#x1@4; add gone/info; remove gone";
+    Ok(state(alloc, log)?)
 }
 
 /// What the conflict of an intent with a winner says, where a row is the reads, the removes, the winner and, if there
