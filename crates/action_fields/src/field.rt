@@ -221,6 +221,7 @@ pub(crate) fn optional_pairs(
 }
 
 /// A deletion vector that may be absent.
+#[inline(always)]
 pub(crate) fn optional_vector(
     alloc: Global,
     body: &Tree<'_>,

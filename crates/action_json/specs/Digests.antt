@@ -1,5 +1,7 @@
 -- Digests of what the actions name: actions that name the same have the same digest.
-use Rattle.std.specs.Prelude.{ℕ, ◌*◌, ◌%◌, ◌^◌, ◌==◌, List, [], Option, None, Some, map, fold, bit_xor}
+use Rattle.std.specs.Prelude.{ℕ, ◌*◌, ◌/◌, ◌%◌, ◌^◌, ◌==◌, List, [], Option, None, Some, length, map, fold, drop, bit_xor}
+use Rattle.std.specs.Int.{w64, from_le_bytes}
+use Rattle.std.specs.Simd.{first_chunks}
 use Rattle.std.specs.List.{IsDistinct}
 use Rattle.action_types.specs.declared.actions.Action.{Action}
 use Rattle.action_types.specs.declared.actions.Action.TheVariants as action
@@ -9,11 +11,19 @@ use Rattle.action_types.specs.Files.{File, file_of_add, file_of_remove}
 abbrev pub fnv_step : ℕ → ℕ → ℕ
 fnv_step hash b = (bit_xor hash b * 0x100000001b3) % 2 ^ 64
 
--- the rounds of more bytes
-unfoldable pub digested : ℕ → List ℕ → ℕ
-digested hash bytes = fold fnv_step hash bytes
+-- the round of eight bytes: the high half of the product is put into its low half too, so that each bit of them reaches low bits later
+abbrev pub word_step : ℕ → List ℕ → ℕ
+word_step hash word =
+    let product : ℕ = (bit_xor hash (from_le_bytes w64 word) * 0x9e3779b97f4a7c15) % 2 ^ 64 in
+    bit_xor product (product / 2 ^ 32)
 
--- the 64 bits of FNV-1a of a byte for what the key is of, and then of the key
+-- the rounds of more bytes: one for each eight of them, and one for each byte that is left
+unfoldable pub digested : ℕ → List ℕ → ℕ
+digested hash bytes =
+    let words : ℕ = length bytes / 8 in
+    fold fnv_step (fold word_step hash (first_chunks 8 words bytes)) (drop (words * 8) bytes)
+
+-- the digest of a byte for what the key is of, and then of the key
 unfoldable pub digest : ℕ → List ℕ → ℕ
 digest tag key = digested (fnv_step 0xcbf29ce484222325 tag) key
 

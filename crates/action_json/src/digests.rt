@@ -1,10 +1,9 @@
 //! Digests of what actions name, by which a list of actions is seen to have no double without a set of names.
-ghost use Rattle.std.specs.Prelude.{◌≡◌, ◌==◌, ◌↔◌, IfOk, IsTrue, option_map};
+ghost use Rattle.std.specs.Prelude.{◌≡◌, ◌==◌, ◌↔◌, IfOk, IsTrue};
 ghost use Rattle.std.specs.List.{IsDistinct};
-ghost use Rattle.action_types.specs.Files.{file, unique_id};
-ghost use Rattle.action_json.specs.Digests.{digest, digest_of, digested, file_digest, fnv_step, vector_digest};
+ghost use Rattle.action_types.specs.Files.{file};
+ghost use Rattle.action_json.specs.Digests.{digest, digest_of, digested, file_digest, fnv_step, word_step};
 
-use crate::keys::id_of;
 use action_types::{Action, Name, Vector};
 use std::alloc::{AllocError, Global};
 
@@ -25,27 +24,21 @@ pub(crate) fn digest_of(alloc: Global, action: &Action) -> Result<u64, AllocErro
 }
 
 /// The digest of a file: that of its path and, where it has a vector, of a byte that no text has and of the unique id.
-#[tactic(auto, unfolding(crate::specs::Digests::file_digest))]
+#[tactic(auto, unfolding(crate::specs::Digests::file_digest, crate::specs::Digests::vector_digest))]
 fn file_digest(alloc: Global, path: &Name, vector: &Option<Vector>) -> Result<u64, AllocError>
     ensures { IfOk result (λ d. d ≡ file_digest (file path.now vector.now)) }
 {
     let hash = digest(5, path.as_str().as_bytes());
-    let id = id_of(alloc, vector)?;
-    Ok(vector_digest(hash, &id))
-}
-
-/// The digest of a file by that of its path.
-#[tactic(auto, unfolding(crate::specs::Digests::vector_digest))]
-fn vector_digest(hash: u64, id: &Option<Name>) -> u64
-    ensures { result ≡ vector_digest hash id.now }
-{
-    match id {
-        None => hash,
-        Some(id) => digested(fnv_step(hash, 255), id.as_str().as_bytes()),
+    match vector {
+        None => Ok(hash),
+        Some(vector) => {
+            let id = vector.unique_id(alloc)?;
+            Ok(digested(fnv_step(hash, 255), id.as_str().as_bytes()))
+        }
     }
 }
 
-/// The 64 bits of FNV-1a of a byte for what the key is of, and then of the key.
+/// The digest of a byte for what the key is of, and then of the key.
 #[tactic(auto, unfolding(crate::specs::Digests::digest))]
 fn digest(tag: u8, key: &[u8]) -> u64
     ensures { result ≡ digest tag key.now }
@@ -53,15 +46,27 @@ fn digest(tag: u8, key: &[u8]) -> u64
     digested(fnv_step(0xcbf29ce484222325, tag), key)
 }
 
-/// The rounds of more bytes.
+/// The rounds of more bytes: one for each eight of them, and one for each byte that is left.
 #[tactic(auto, unfolding(crate::specs::Digests::digested))]
 fn digested(mut hash: u64, bytes: &[u8]) -> u64
     ensures { result ≡ digested hash bytes.now }
 {
-    for byte in bytes {
+    let (words, rest) = bytes.as_chunks::<8>();
+    for word in words {
+        hash = word_step(hash, *word);
+    }
+    for byte in rest {
         hash = fnv_step(hash, *byte);
     }
     hash
+}
+
+/// The round of eight bytes, whose high bits count in the low bits of later rounds too.
+fn word_step(hash: u64, word: [u8; 8]) -> u64
+    ensures { result ≡ word_step hash word }
+{
+    let product = (hash ^ u64::from_le_bytes(word)).wrapping_mul(0x9e3779b97f4a7c15);
+    product ^ (product >> 32)
 }
 
 /// One round of FNV-1a.

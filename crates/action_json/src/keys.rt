@@ -84,7 +84,7 @@ fn note(alloc: Global, keys: &mut BTreeSet<String>, key: &Name) -> Result<Option
 }
 
 /// The unique id of a vector, if there is one; refused for want of memory alone.
-pub(crate) fn id_of(alloc: Global, vector: &Option<Vector>) -> Result<Option<Name>, AllocError>
+fn id_of(alloc: Global, vector: &Option<Vector>) -> Result<Option<Name>, AllocError>
     ensures { IfOk result (λ id. id ≡ option_map unique_id vector.now) }
 {
     match vector {
