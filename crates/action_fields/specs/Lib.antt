@@ -2,6 +2,7 @@ pub mod Kinds
 pub mod Gives
 pub mod Types
 pub mod Bodies
+pub mod Checkpoints
 pub mod Canonical
 pub mod Valid
 pub mod Tokens

@@ -18,7 +18,7 @@ use json_tree::Tree;
 use std::alloc::Global;
 
 /// What was found, or the fault of the field where nothing was.
-fn needed<T: Drop>(alloc: Global, name: &str, found: Option<T>) -> Result<T, BadBody>
+pub(crate) fn needed<T: Drop>(alloc: Global, name: &str, found: Option<T>) -> Result<T, BadBody>
     ensures { Gives told (λ x. x) result (or_fault name.now found) }
 {
     match found {

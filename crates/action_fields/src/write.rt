@@ -134,7 +134,7 @@ fn put_remove_rest(out: &mut Writer, remove: &Remove, change: bool) -> Result<()
 }
 
 #[tactic(auto, using(crate::proofs::Tokens::token_laws))]
-fn put_remove(out: &mut Writer, remove: &Remove, change: bool) -> Result<(), AllocError>
+pub(crate) fn put_remove(out: &mut Writer, remove: &Remove, change: bool) -> Result<(), AllocError>
     ensures puts { Puts result out.old out.new (fields_tokens (remove_fields change remove.now)) }
     ensures fits { OnOk result (HasFittingFields (action.Remove remove.now)) }
 {
@@ -166,7 +166,7 @@ fn put_add_rest(out: &mut Writer, add: &Add, change: bool) -> Result<(), AllocEr
 }
 
 #[tactic(auto, using(crate::proofs::Tokens::token_laws))]
-fn put_add(out: &mut Writer, add: &Add, change: bool) -> Result<(), AllocError>
+pub(crate) fn put_add(out: &mut Writer, add: &Add, change: bool) -> Result<(), AllocError>
     ensures puts { Puts result out.old out.new (fields_tokens (add_fields change add.now)) }
     ensures fits { OnOk result (HasFittingFields (action.Add add.now)) }
 {
@@ -200,7 +200,7 @@ fn put_body(out: &mut Writer, action: &Action, change: bool) -> Result<(), Alloc
 }
 
 /// The buffer of the writer; cut back to its first `length` bytes where the writing was refused.
-fn finished(
+pub(crate) fn finished(
     writer: Writer,
     length: usize,
     done: Result<(), AllocError>,

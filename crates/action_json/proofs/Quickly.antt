@@ -81,7 +81,7 @@ file_digest-mentions file (action.Remove a) h = ap file_digest (one_file (file_o
 file_digest-mentions file (action.Add a) h = ap file_digest (one_file (file_of_add a) file h)
 
 -- this digest is not among those of the actions
-abbrev IsNew : ℕ → List ℕ → Type 0
+abbrev pub IsNew : ℕ → List ℕ → Type 0
 IsNew d digests = AllByRecursion (λ e. (e == d) ≡ false) digests
 
 none_passes : (test : Action → Bool) (d : ℕ) → ((b : Action) → test b ≡ true → digest_of b ≡ d) → (done : List Action) → IsNew d (map digest_of done) → list_any test done ≡ false
@@ -90,7 +90,7 @@ none_passes test d same (b ∷ done) new =
     let fails : test b ≡ false = false_from_ne_true (test b) (λ e. eqb-false (digest_of b) d new.0 (same b e)) in
     rw fails (none_passes test d same done new.1)
 
-no_double : (done : List Action) (a : Action) → IsNew (digest_of a) (map digest_of done) → double_of done a ≡ None
+pub no_double : (done : List Action) (a : Action) → IsNew (digest_of a) (map digest_of done) → double_of done a ≡ None
 unfolding double_of digest_of
 no_double done (action.Info a) new = rw (none_passes is_info (digest 1 []) info_digest done new) refl
 no_double done (action.Protocol a) new = rw (none_passes is_protocol (digest 2 []) protocol_digest done new) refl
@@ -106,7 +106,7 @@ front_and_last : (P : ℕ → Type 0) (xs : List ℕ) (d : ℕ) → AllByRecursi
 front_and_last P [] d h = (tt, h.0)
 front_and_last P (x ∷ xs) d h = let rest = front_and_last P xs d h.1 in ((h.0, rest.0), rest.1)
 
-last_is_new : (xs : List ℕ) (d : ℕ) → IsDistinct ◌==◌ (xs ++ d ∷ []) → IsNew d xs × IsDistinct ◌==◌ xs
+pub last_is_new : (xs : List ℕ) (d : ℕ) → IsDistinct ◌==◌ (xs ++ d ∷ []) → IsNew d xs × IsDistinct ◌==◌ xs
 unfolding IsDistinct
 last_is_new [] d h = (tt, tt)
 last_is_new (x ∷ xs) d h =
@@ -114,7 +114,7 @@ last_is_new (x ∷ xs) d h =
     let rest = last_is_new xs d h.1 in
     ((here.1, rest.0), (here.0, rest.1))
 
-action_is_new : (done : List Action) (a : Action) → HasDistinctDigests (done ++ a ∷ []) → IsNew (digest_of a) (map digest_of done) × HasDistinctDigests done
+pub action_is_new : (done : List Action) (a : Action) → HasDistinctDigests (done ++ a ∷ []) → IsNew (digest_of a) (map digest_of done) × HasDistinctDigests done
 action_is_new done a h = last_is_new (map digest_of done) (digest_of a) (subst (IsDistinct ◌==◌) (map-append digest_of done (a ∷ [])) h)
 
 -- the actions before the last lines, where those lines leave all actions with distinct digests

@@ -1,4 +1,5 @@
 pub mod Lines
+pub mod CheckpointLines
 pub mod Commit
 pub mod Text
 pub mod Keys

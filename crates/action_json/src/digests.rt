@@ -9,7 +9,7 @@ use std::alloc::{AllocError, Global};
 
 /// The digest of what the action names: actions that name the same have the same digest. Refused for want of memory alone.
 #[tactic(auto, unfolding(crate::specs::Digests::digest_of))]
-pub(crate) fn digest_of(alloc: Global, action: &Action) -> Result<u64, AllocError>
+pub fn digest_of(alloc: Global, action: &Action) -> Result<u64, AllocError>
     ensures { IfOk result (λ d. d ≡ digest_of action.now) }
 {
     match action {
@@ -77,7 +77,7 @@ fn fnv_step(hash: u64, byte: u8) -> u64
 }
 
 /// Whether no two of the digests are equal.
-pub(crate) fn are_distinct(mut digests: Vec<u64>) -> bool
+pub fn are_distinct(mut digests: Vec<u64>) -> bool
     ensures { IsTrue result ↔ IsDistinct ◌==◌ digests.items }
 {
     digests.sort_unstable();

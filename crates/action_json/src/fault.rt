@@ -53,8 +53,10 @@ impl<T: Drop> From<AllocFailed<T>> for BadCommit {
 
 /// Why a line was not read.
 #[derive(Debug, Drop)]
-pub(crate) enum BadLine {
+pub enum BadLine {
+    /// It is faulty: its first reason.
     Because(Why),
+    /// Memory ran out.
     Memory,
 }
 

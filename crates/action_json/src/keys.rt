@@ -16,7 +16,7 @@ type Noted = (Name, Option<Name>);
 
 /// Which kinds that stand once, which applications, which domains and which files have been named.
 #[derive(Drop)]
-pub(crate) struct Keys {
+pub struct Keys {
     info: bool,
     protocol: bool,
     meta: bool,
@@ -27,7 +27,7 @@ pub(crate) struct Keys {
 
 impl Keys {
     /// No keys.
-    pub(crate) fn new(alloc: Global) -> Keys
+    pub fn new(alloc: Global) -> Keys
         ensures { Knows result [] }
     {
         Keys {
@@ -40,9 +40,10 @@ impl Keys {
         }
     }
 
-    /// Notes what an action names. The answer is the key that it has in common with an action before it, if there is one.
+    /// Notes what an action names. The answer is the key that it has in common with an action noted before it, if there is one.
+    /// Refused for want of memory alone; the keys then serve no more.
     #[tactic(auto, unfolding(crate::specs::Commit::double_of))]
-    pub(crate) fn add(&mut self, alloc: Global, action: &Action) -> Result<Option<Name>, AllocError>
+    pub fn add(&mut self, alloc: Global, action: &Action) -> Result<Option<Name>, AllocError>
         ensures double { IfOk result (λ o. (done : List Action) → Knows self.old done → o ≡ double_of done action.now) }
         ensures knows { OnOk result ((done : List Action) → Knows self.old done → Knows self.new (done ++ action.now ∷ [])) }
     {

@@ -22,7 +22,7 @@ pub(crate) enum Line {
 }
 
 /// Whether a line is JSON white space alone.
-fn is_blank(line: &[u8]) -> bool
+pub(crate) fn is_blank(line: &[u8]) -> bool
     ensures { result ≡ is_blank line.now }
 {
     line.iter().all(|byte| *byte == b' ' || *byte == b'\t' || *byte == b'\n' || *byte == b'\r')
@@ -69,7 +69,7 @@ fn read_text<'a>(
 }
 
 /// The one member of an object.
-fn only_member<'v, 'a>(value: &'v Tree<'a>) -> Option<(&'a str, &'v Tree<'a>)>
+pub(crate) fn only_member<'v, 'a>(value: &'v Tree<'a>) -> Option<(&'a str, &'v Tree<'a>)>
     ensures { option_map (λ m. (m.0.now, view m.1.now)) result ≡ only_member (view value.now) }
 {
     let members = value.as_object()?;

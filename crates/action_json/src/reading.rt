@@ -74,7 +74,7 @@ fn read_lines(alloc: Global, bytes: &[u8]) -> Result<Vec<Action>, BadCommit>
 }
 
 /// The first line of a text that is not empty, and what follows its LF.
-pub(crate) fn first_line(text: &[u8]) -> (&[u8], &[u8])
+pub fn first_line(text: &[u8]) -> (&[u8], &[u8])
     requires { 0 < length text.now }
     ensures cut { cut text.now ≡ result.0.now ∷ cut result.1.now }
     ensures shorter { length result.1.now < length text.now }

@@ -1,0 +1,5 @@
+pub mod Cuts
+pub mod Counts
+pub mod Sound
+pub mod Timeless
+pub mod Answered

@@ -1,0 +1,5 @@
+pub mod Text
+pub mod Outcome
+pub mod Refused
+pub mod Table
+pub mod Left

@@ -1,0 +1,8 @@
+//! Checkpoint texts: the state of a table at a version, as lines of JSON (Delta protocol, "V2 Spec"), without sidecars.
+#![tactic(auto)]
+
+mod fault;
+mod reading;
+
+pub use fault::BadCheckpoint;
+pub use reading::read_checkpoint;
