@@ -1,13 +1,16 @@
 pub mod ByFile
+pub mod Decided
 pub mod Files
 pub mod Ids
 pub mod InFileOrder
 pub mod InOrder
 pub mod Last
+pub mod Laying
 pub mod Listing
 pub mod Named
 pub mod Plainly
 pub mod Searching
 pub mod Sorted
 pub mod Standing
+pub mod Under
 pub mod Walking

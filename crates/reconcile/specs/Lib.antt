@@ -1,11 +1,17 @@
 pub mod ByFile
+pub mod FileNames
 pub mod Keys
+pub mod Laying
 pub mod Left
 pub mod Named
+pub mod Newest
+pub mod Newer
 pub mod Paths
 pub mod Plain
 pub mod Replay
 pub mod Standing
 pub mod Steps
+pub mod StepsBack
+pub mod Under
 pub mod Walking
 pub mod Walks

@@ -1,8 +1,9 @@
-ghost use Rattle.std.specs.Prelude.{◌≡◌, ◌↔◌, IsTrue, OnOk, OnErr, IfOk};
+ghost use Rattle.std.specs.Prelude.{◌≡◌, ◌↔◌, IsTrue, ◌<◌, Some, OnOk, OnErr, IfOk, IfSome, IfNone};
 ghost use Rattle.std.specs.Option.{option_copied};
 ghost use Rattle.std.specs.FinMap as fin;
 ghost use Rattle.action_types.specs.Files.{unique_id};
 ghost use Rattle.reconcile.specs.Named.{named};
+ghost use Rattle.reconcile.specs.Laying.{Strikes, LaysOver};
 
 use action_types::{Name, Vector};
 use std::alloc::{AllocError, Global};
@@ -85,6 +86,36 @@ impl<V: Drop> ByName<V> {
         ensures { IsTrue result → self.now ≡ fin.empty }
     {
         self.entries.is_empty()
+    }
+
+    /// Takes the value of the first name out, if there is one.
+    pub(crate) fn pop(&mut self) -> Option<(Name, V)>
+        ensures some { IfSome result (λ e. fin.get self.old e.0 ≡ Some e.1) }
+        ensures rest { IfSome result (λ e. self.new ≡ fin.remove self.old e.0) }
+        ensures none { IfNone result (self.old ≡ fin.empty) }
+        ensures shorter { IfSome result (λ _. fin.len self.new < fin.len self.old) }
+    {
+        let Some((name, value)) = self.entries.pop_first() else {
+            return None;
+        };
+        Some((Name::from_string(name), value))
+    }
+
+    /// Takes the names of another map away.
+    pub(crate) fn strike<W: Drop>(&mut self, names: &ByName<W>)
+        ensures { Strikes self.old names.now self.new }
+    {
+        for (name, _) in names.entries() {
+            self.remove(name.as_str());
+        }
+    }
+
+    /// Moves the values of another map here, each in place of an older one. Refused for want of memory alone.
+    pub(crate) fn lay(&mut self, newer: ByName<V>) -> Result<(), AllocError>
+        ensures { OnOk result (LaysOver self.old newer self.new) }
+    {
+        let mut newer = newer;
+        self.entries.append(&mut newer.entries)
     }
 
     /// The names with their values in byte order of the names.

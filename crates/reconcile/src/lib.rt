@@ -6,11 +6,13 @@ mod by_file;
 mod by_name;
 mod laws;
 mod merge;
+mod newest;
 pub mod plain;
 mod state;
 mod walks;
 
 pub use action_types::Key;
 pub use laws::{a_log_has_one_state, paths_are_files, walks_list_the_replay};
+pub use newest::NewestFirst;
 pub use state::State;
 pub use walks::{DomainWalk, FileWalk, GoneWalk, TxnWalk};
