@@ -141,12 +141,22 @@ fn copy_seen(alloc: Global, time: i64) -> Result<Seen, Fail> {
 
 /// The state of that table, its commits read from the newest one back down to one, over the state of those
 /// before.
-fn newest_seen(alloc: Global, base: usize) -> Result<Seen, Fail> {
+fn newest_state(alloc: Global, base: usize) -> Result<State, Fail> {
     let mut newest = NewestFirst::new(alloc);
     for shorts in WORKED[base.min(4)..].iter().rev() {
         newest = newest.older(commit(alloc, shorts)?.as_slice())?;
     }
-    Ok(look_at(&newest.over(worked_state(alloc, base)?)?))
+    Ok(newest.over(worked_state(alloc, base)?)?)
+}
+
+fn newest_seen(alloc: Global, base: usize) -> Result<Seen, Fail> {
+    Ok(look_at(&newest_state(alloc, base)?))
+}
+
+/// Whether the state of that table is the one of its first commits, in both orders of asking.
+fn same_as_first(alloc: Global, state: State, len: usize) -> Result<bool, Fail> {
+    let first = worked_state(alloc, len)?;
+    Ok(state.same_table(&first) && first.same_table(&state))
 }
 
 #[test]
@@ -168,6 +178,22 @@ fn remove_and_add_again(rt: HostRuntime) -> Result<(), Fail> {
     assert_eq!(rt; copy_seen(rt.alloc(), 1003)?, added);
     for base in 0..5usize {
         assert_eq!(rt; newest_seen(rt.alloc(), base)?, added);
+    }
+    Ok(())
+}
+
+#[test]
+fn one_table_whatever_the_time(rt: HostRuntime) -> Result<(), Fail> {
+    let copy = worked_state(rt.alloc(), 4)?.copy()?.with_time(5);
+    assert!(rt; same_as_first(rt.alloc(), copy, 4)?);
+    for base in 0..5usize {
+        assert!(rt; same_as_first(rt.alloc(), newest_state(rt.alloc(), base)?, 4)?);
+    }
+    for len in 0..4usize {
+        assert!(rt;
+            !same_as_first(rt.alloc(), worked_state(rt.alloc(), 4)?, len)?,
+            "{len} commits"
+        );
     }
     Ok(())
 }
@@ -343,7 +369,9 @@ fn made_log_agrees(alloc: Global, seed: u64, len: u64) -> Result<bool, Fail> {
     Ok(
         as_searched(alloc, &applied, commits)?
             && as_searched(alloc, &newest, commits)?
-            && as_searched(alloc, &owned, commits)?,
+            && as_searched(alloc, &owned, commits)?
+            && newest.same_table(&applied)
+            && applied.same_table(&owned),
     )
 }
 

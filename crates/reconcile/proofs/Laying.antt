@@ -48,10 +48,10 @@ module _ {W : Type 0} where
       ap (λ o. cond (is_eq o) (Some e.1) (fin.find name_cmp q es)) (less (name_cmp q e.0) (first (is_lt (name_cmp q e.0)) (below_all name_cmp q es) h))
       ∙ find_below q es (second (is_lt (name_cmp q e.0)) (below_all name_cmp q es) h)
 
-  no_more : (q : List ℕ) (w : W) (es : List (List ℕ × W)) → T (fin.is_sorted name_cmp ((q, w) ∷ es)) → fin.find name_cmp q es ≡ None
+  pub no_more : (q : List ℕ) (w : W) (es : List (List ℕ × W)) → T (fin.is_sorted name_cmp ((q, w) ∷ es)) → fin.find name_cmp q es ≡ None
   no_more q w es h = find_below q es (first (below_all name_cmp q es) (fin.is_sorted name_cmp es) h)
 
-  sorted_rest : (q : List ℕ) (w : W) (es : List (List ℕ × W)) → T (fin.is_sorted name_cmp ((q, w) ∷ es)) → T (fin.is_sorted name_cmp es)
+  pub sorted_rest : (q : List ℕ) (w : W) (es : List (List ℕ × W)) → T (fin.is_sorted name_cmp ((q, w) ∷ es)) → T (fin.is_sorted name_cmp es)
   sorted_rest q w es h = second (below_all name_cmp q es) (fin.is_sorted name_cmp es) h
 
 module _ {V : Type 0} where

@@ -1,3 +1,4 @@
+pub mod Alike
 pub mod ByFile
 pub mod Decided
 pub mod Files
@@ -14,3 +15,4 @@ pub mod Sorted
 pub mod Standing
 pub mod Under
 pub mod Walking
+pub mod Within

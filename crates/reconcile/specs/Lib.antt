@@ -15,3 +15,4 @@ pub mod StepsBack
 pub mod Under
 pub mod Walking
 pub mod Walks
+pub mod Within

@@ -1,12 +1,14 @@
-ghost use Rattle.std.specs.Prelude.{◌≡◌, ◌++◌, Some, None, OnOk, IfOk, bytes_eq};
+ghost use Rattle.std.specs.Prelude.{◌≡◌, ◌↔◌, IsTrue, ◌++◌, Some, None, OnOk, IfOk, bytes_eq};
 ghost use Rattle.std.specs.Option.{option_copied};
 ghost use Rattle.std.specs.FinMap as fin;
 ghost use Rattle.action_types.specs.Files.{file_of_key, offset_text, unique_id};
 ghost use Rattle.reconcile.specs.ByFile.{plain_file, marked_file, or_empty, PutsBack, ChangesAt};
 ghost use Rattle.reconcile.specs.FileNames.{named_file};
 ghost use Rattle.reconcile.specs.Laying.{Strikes, LaysOver, StrikesIds, StrikesMarked, LaysIds, LaysMarked};
+ghost use Rattle.reconcile.specs.Within.{IsWithin, IsMarkedWithin};
 
 use crate::by_name::{ByName, EqualCopy};
+use crate::equal::SameValue;
 use crate::merge::FilesLeft;
 use action_types::{Key, Name, Vector};
 use itoa::Buffer;
@@ -352,5 +354,36 @@ impl<V: EqualCopy + Drop> ByFile<V> {
             plain,
             marked,
         })
+    }
+}
+
+/// Whether another map has all of these values under the same paths and ids.
+fn is_marked_within<V: SameValue + Drop>(
+    marked: &ByName<ByName<V>>,
+    others: &ByName<ByName<V>>,
+) -> bool
+    ensures { IsTrue result ↔ IsMarkedWithin marked.now others.now }
+{
+    for (path, files) in marked.entries() {
+        if !files.is_among(others.get(path.as_str())) {
+            return false;
+        }
+    }
+    true
+}
+
+impl<V: SameValue + Drop> ByFile<V> {
+    /// Whether another map has all of these values of the same files.
+    fn is_within(&self, other: &ByFile<V>) -> bool
+        ensures { IsTrue result ↔ IsWithin self.now other.now }
+    {
+        self.plain.is_within(&other.plain) && is_marked_within(&self.marked, &other.marked)
+    }
+
+    /// Whether the maps are equal.
+    pub(crate) fn is_same_map(&self, other: &ByFile<V>) -> bool
+        ensures { IsTrue result ↔ (self.now ≡ other.now) }
+    {
+        self.is_within(other) && other.is_within(self)
     }
 }

@@ -4,7 +4,9 @@ ghost use Rattle.std.specs.FinMap as fin;
 ghost use Rattle.action_types.specs.Files.{unique_id};
 ghost use Rattle.reconcile.specs.Named.{named};
 ghost use Rattle.reconcile.specs.Laying.{Strikes, LaysOver};
+ghost use Rattle.reconcile.specs.Within.{IsWithin, IsAmong};
 
+use crate::equal::SameValue;
 use action_types::{Name, Vector};
 use std::alloc::{AllocError, Global};
 use std::collections::BTreeMap;
@@ -150,5 +152,46 @@ impl<V: EqualCopy + Drop> ByName<V> {
 impl<V: EqualCopy + Drop> EqualCopy for ByName<V> {
     fn equal_copy(&self) -> Result<ByName<V>, AllocError> {
         self.copy()
+    }
+}
+
+/// Whether a value that was told is this one.
+fn is_told<V: SameValue>(told: Option<&V>, value: &V) -> bool
+    ensures { IsTrue result ↔ (option_copied told.entry ≡ Some value.now) }
+{
+    match told {
+        Some(told) => told.is_same(value),
+        None => false,
+    }
+}
+
+impl<V: SameValue + Drop> ByName<V> {
+    /// Whether another map has all of these values under the same names.
+    pub(crate) fn is_within(&self, other: &ByName<V>) -> bool
+        ensures { IsTrue result ↔ IsWithin self.now other.now }
+    {
+        for (name, value) in self.entries() {
+            if !is_told(other.get(name.as_str()), value) {
+                return false;
+            }
+        }
+        true
+    }
+
+    /// The same, where the other map may be none at all.
+    pub(crate) fn is_among(&self, other: Option<&ByName<V>>) -> bool
+        ensures { IsTrue result ↔ IsAmong self.now (option_copied other.entry) }
+    {
+        match other {
+            Some(other) => self.is_within(other),
+            None => self.is_within(&ByName::new(self.alloc)),
+        }
+    }
+
+    /// Whether the maps are equal.
+    pub(crate) fn is_same_map(&self, other: &ByName<V>) -> bool
+        ensures { IsTrue result ↔ (self.now ≡ other.now) }
+    {
+        self.is_within(other) && other.is_within(self)
     }
 }

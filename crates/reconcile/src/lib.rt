@@ -4,6 +4,7 @@
 mod ahead;
 mod by_file;
 mod by_name;
+mod equal;
 mod laws;
 mod merge;
 mod newest;

@@ -1,8 +1,9 @@
-ghost use Rattle.std.specs.Prelude.{◌≡◌, List, [], ◌∷◌, ◌++◌, None, Some, IfOk, option_map, fold};
+ghost use Rattle.std.specs.Prelude.{◌≡◌, ◌↔◌, IsTrue, List, [], ◌∷◌, ◌++◌, None, Some, IfOk, option_map, fold};
 ghost use Rattle.std.specs.Option.{option_copied};
 
 use crate::by_file::ByFile;
 use crate::by_name::{ByName, EqualCopy};
+use crate::equal::{is_same_meta, is_same_protocol};
 use crate::walks::{DomainWalk, FileWalk, GoneWalk, TxnWalk};
 use action_types::{Action, Add, Domain, Key, Meta, Protocol, Remove, Txn};
 use std::alloc::{AllocError, Global};
@@ -378,6 +379,32 @@ impl State {
         DomainWalk {
             rest: self.domains.values(),
         }
+    }
+
+    /// Whether two states are equal but for their time. It takes no memory; each value is looked up in the
+    /// other state.
+    pub fn same_table(&self, other: &State) -> bool
+        ensures { IsTrue result ↔ (self.now ≡ timed other.now (time_in self.now)) }
+    {
+        self.has_files_of(other) && self.has_names_of(other) && self.has_rest_of(other)
+    }
+
+    fn has_files_of(&self, other: &State) -> bool
+        ensures { IsTrue result ↔ ((self.now.live ≡ other.now.live) × (self.now.gone ≡ other.now.gone)) }
+    {
+        self.live.is_same_map(&other.live) && self.gone.is_same_map(&other.gone)
+    }
+
+    fn has_names_of(&self, other: &State) -> bool
+        ensures { IsTrue result ↔ ((self.now.txns ≡ other.now.txns) × (self.now.domains ≡ other.now.domains)) }
+    {
+        self.txns.is_same_map(&other.txns) && self.domains.is_same_map(&other.domains)
+    }
+
+    fn has_rest_of(&self, other: &State) -> bool
+        ensures { IsTrue result ↔ ((self.now.protocol ≡ other.now.protocol) × (self.now.meta ≡ other.now.meta)) }
+    {
+        is_same_protocol(&self.protocol, &other.protocol) && is_same_meta(&self.meta, &other.meta)
     }
 
     /// An equal state; refused for want of memory alone.
