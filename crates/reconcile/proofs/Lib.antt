@@ -9,6 +9,7 @@ pub mod Last
 pub mod Laying
 pub mod Listing
 pub mod Named
+pub mod OnBase
 pub mod Plainly
 pub mod Searching
 pub mod Sorted
