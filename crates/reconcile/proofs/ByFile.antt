@@ -17,7 +17,7 @@ pub on_ok : {A E : Type 0} {P Q : Type 0} (r : Result A E) → (P → Q) → OnO
 on_ok (Ok a) f h = f h
 on_ok (Err e) f h = tt
 
-tied : (path : List ℕ) → eq_by_cmp name_cmp path path ≡ true
+pub tied : (path : List ℕ) → eq_by_cmp name_cmp path path ≡ true
 tied path = ap is_eq (tied_itself nat_list_cmp_total path)
 
 module _ {V : Type 0} where
@@ -101,7 +101,7 @@ module _ {V : Type 0} where
 
   -- ---- one path taken out and put back
 
-  get-or_empty : (o : Option (fin.FinMap name_cmp V)) (i : List ℕ) → fin.get (or_empty o) i ≡ option_and_then (λ n. fin.get n i) o
+  pub get-or_empty : (o : Option (fin.FinMap name_cmp V)) (i : List ℕ) → fin.get (or_empty o) i ≡ option_and_then (λ n. fin.get n i) o
   get-or_empty None i = fin.get-empty name_cmp i
   get-or_empty (Some n) i = refl
 

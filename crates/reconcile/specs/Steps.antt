@@ -9,11 +9,22 @@ use Rattle.reconcile.specs.declared.state.State.{State}
 abbrev pub timed : State → Option ℤ → State
 timed s time = record s { time = time }
 
+-- without what the action puts an end to
+abbrev pub cleared : State → Action → State
+cleared s (action.Domain domain) = record s { domains = (if domain.removed then fin.remove s.domains domain.domain else s.domains) }
+cleared s (action.Remove remove) = record s { live = fin.remove s.live (key_of_remove remove) }
+cleared s (action.Add add) = record s { gone = fin.remove s.gone (key_of add) }
+cleared s _ = s
+
+-- with what the action says of what it names
+abbrev pub holding : State → Action → State
+holding s (action.Info info) = timed s (Some info.time)
+holding s (action.Protocol protocol) = record s { protocol = Some protocol }
+holding s (action.Meta meta) = record s { meta = Some meta }
+holding s (action.Txn txn) = record s { txns = fin.insert s.txns txn.app txn }
+holding s (action.Domain domain) = record s { domains = (if domain.removed then s.domains else fin.insert s.domains domain.domain domain) }
+holding s (action.Remove remove) = record s { gone = fin.insert s.gone (key_of_remove remove) (record remove { change = false }) }
+holding s (action.Add add) = record s { live = fin.insert s.live (key_of add) (record add { change = false }) }
+
 abbrev pub after : State → Action → State
-after s (action.Info info) = timed s (Some info.time)
-after s (action.Protocol protocol) = record s { protocol = Some protocol }
-after s (action.Meta meta) = record s { meta = Some meta }
-after s (action.Txn txn) = record s { txns = fin.insert s.txns txn.app txn }
-after s (action.Domain domain) = record s { domains = (if domain.removed then fin.remove s.domains domain.domain else fin.insert s.domains domain.domain domain) }
-after s (action.Remove remove) = record s { live = fin.remove s.live (key_of_remove remove); gone = fin.insert s.gone (key_of_remove remove) (record remove { change = false }) }
-after s (action.Add add) = record s { live = fin.insert s.live (key_of add) (record add { change = false }); gone = fin.remove s.gone (key_of add) }
+after s a = holding (cleared s a) a

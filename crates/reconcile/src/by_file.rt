@@ -1,15 +1,26 @@
-ghost use Rattle.std.specs.Prelude.{◌≡◌, ◌++◌, Some, None, OnOk, IfOk, bytes_eq};
+ghost use Rattle.std.specs.Prelude.{◌≡◌, ◌↔◌, IsTrue, ◌++◌, Some, None, OnOk, IfOk, bytes_eq};
 ghost use Rattle.std.specs.Option.{option_copied};
 ghost use Rattle.std.specs.FinMap as fin;
 ghost use Rattle.action_types.specs.Files.{file_of_key, offset_text, unique_id};
 ghost use Rattle.reconcile.specs.ByFile.{plain_file, marked_file, or_empty, PutsBack, ChangesAt};
+ghost use Rattle.reconcile.specs.FileNames.{named_file};
+ghost use Rattle.reconcile.specs.Laying.{Strikes, LaysOver, StrikesIds, StrikesMarked, LaysIds, LaysMarked};
+ghost use Rattle.reconcile.specs.Within.{IsWithin, IsMarkedWithin};
 
 use crate::by_name::{ByName, EqualCopy};
+use crate::equal::SameValue;
 use crate::merge::FilesLeft;
 use action_types::{Key, Name, Vector};
 use itoa::Buffer;
 use std::alloc::{AllocError, Global};
 use std::marker::Model;
+
+/// The texts that name a file: its path and, where it has a deletion vector, the vector's unique id.
+#[derive(Drop)]
+pub(crate) struct FileName {
+    path: Name,
+    id: Option<Name>,
+}
 
 /// Values by file: those of files without a deletion vector by path, and the others by the unique ids of the
 /// vectors under their paths. A contract sees a finite map from the files.
@@ -103,15 +114,15 @@ fn take_files<V: Drop>(marked: &mut ByName<ByName<V>>, alloc: Global, path: &str
 fn put<V: Drop>(
     marked: &mut ByName<ByName<V>>,
     alloc: Global,
-    path: &str,
+    path: Name,
     id: Name,
     value: V,
 ) -> Result<(), AllocError>
-    ensures { OnOk result (ChangesAt marked.old marked.new path.now id (Some value)) }
+    ensures { OnOk result (ChangesAt marked.old marked.new path id (Some value)) }
 {
-    let mut files = take_files(marked, alloc, path);
+    let mut files = take_files(marked, alloc, path.as_str());
     files.insert(id, value)?;
-    marked.insert(Name::from_str(alloc, path)?, files)
+    marked.insert(path, files)
 }
 
 /// Puts the values of a path back, if there are some.
@@ -142,6 +153,81 @@ fn strike<V: Drop>(
     let mut files = take_files(marked, alloc, path);
     files.remove(id);
     put_back(marked, alloc, path, files)
+}
+
+/// Takes the ids of one path away. Refused for want of memory alone.
+fn strike_ids<V: Drop, W: Drop>(
+    marked: &mut ByName<ByName<V>>,
+    alloc: Global,
+    path: &str,
+    ids: &ByName<W>,
+) -> Result<(), AllocError>
+    ensures { OnOk result (StrikesIds marked.old path.now ids.now marked.new) }
+{
+    let mut files = take_files(marked, alloc, path);
+    files.strike(ids);
+    put_back(marked, alloc, path, files)
+}
+
+/// Takes the ids of another map away. Refused for want of memory alone.
+fn strike_marked<V: Drop, W: Drop>(
+    marked: &mut ByName<ByName<V>>,
+    alloc: Global,
+    others: &ByName<ByName<W>>,
+) -> Result<(), AllocError>
+    ensures { OnOk result (StrikesMarked marked.old others.now marked.new) }
+{
+    for (path, ids) in others.entries() {
+        strike_ids(marked, alloc, path.as_str(), ids)?;
+    }
+    Ok(())
+}
+
+/// Moves the values of one path here, each in place of an older one. Refused for want of memory alone.
+fn lay_ids<V: Drop>(
+    marked: &mut ByName<ByName<V>>,
+    alloc: Global,
+    path: Name,
+    newer: ByName<V>,
+) -> Result<(), AllocError>
+    ensures { OnOk result (LaysIds marked.old path newer marked.new) }
+{
+    let mut files = take_files(marked, alloc, path.as_str());
+    files.lay(newer)?;
+    marked.insert(path, files)
+}
+
+/// Moves the values of another map here, each in place of an older one. Refused for want of memory alone.
+fn lay_marked<V: Drop>(
+    marked: &mut ByName<ByName<V>>,
+    alloc: Global,
+    newer: ByName<ByName<V>>,
+) -> Result<(), AllocError>
+    ensures { OnOk result (LaysMarked marked.old newer marked.new) }
+{
+    let mut left = newer;
+    while let Some((path, files)) = left.pop() {
+        lay_ids(marked, alloc, path, files)?;
+    }
+    Ok(())
+}
+
+impl<V: Drop> ByFile<V> {
+    /// Takes the files of another map away. Refused for want of memory alone.
+    pub(crate) fn strike<W: Drop>(&mut self, files: &ByFile<W>) -> Result<(), AllocError>
+        ensures { OnOk result (Strikes self.old files.now self.new) }
+    {
+        self.plain.strike(&files.plain);
+        strike_marked(&mut self.marked, self.alloc, &files.marked)
+    }
+
+    /// Moves the values of another map here, each in place of an older one. Refused for want of memory alone.
+    pub(crate) fn lay(&mut self, newer: ByFile<V>) -> Result<(), AllocError>
+        ensures { OnOk result (LaysOver self.old newer self.new) }
+    {
+        self.plain.lay(newer.plain)?;
+        lay_marked(&mut self.marked, self.alloc, newer.marked)
+    }
 }
 
 impl<V: Drop> ByFile<V> {
@@ -181,26 +267,40 @@ impl<V: Drop> ByFile<V> {
         }
     }
 
-    /// Gives a file this value in place of an older one. Refused for want of memory alone.
-    pub(crate) fn insert(&mut self, key: Key<'_>, value: V) -> Result<(), AllocError>
-        ensures { OnOk result (self.new ≡ fin.insert self.old (file_of_key key.entry) value) }
+    /// The texts that name a file; refused for want of memory alone.
+    pub(crate) fn name(&self, key: Key<'_>) -> Result<FileName, AllocError>
+        ensures { IfOk result (λ n. named_file n ≡ file_of_key key.entry) }
     {
+        let path = Name::from_str(self.alloc, key.path)?;
         match key.vector {
-            None => self.insert_plain(key.path, value),
-            Some(vector) => self.insert_marked(key.path, vector, value),
+            None => Ok(FileName { path, id: None }),
+            Some(vector) => {
+                let id = vector.unique_id(self.alloc)?;
+                Ok(FileName { path, id: Some(id) })
+            }
         }
     }
 
-    fn insert_plain(&mut self, path: &str, value: V) -> Result<(), AllocError>
-        ensures { OnOk result (self.new ≡ fin.insert self.old (plain_file path.now) value) }
+    /// Gives a file this value in place of an older one. Refused for want of memory alone.
+    pub(crate) fn insert(&mut self, file: FileName, value: V) -> Result<(), AllocError>
+        ensures { OnOk result (self.new ≡ fin.insert self.old (named_file file) value) }
     {
-        self.plain.insert(Name::from_str(self.alloc, path)?, value)
+        let FileName { path, id } = file;
+        match id {
+            None => self.insert_plain(path, value),
+            Some(id) => self.insert_marked(path, id, value),
+        }
     }
 
-    fn insert_marked(&mut self, path: &str, vector: &Vector, value: V) -> Result<(), AllocError>
-        ensures { OnOk result (self.new ≡ fin.insert self.old (marked_file path.now (unique_id vector.now)) value) }
+    fn insert_plain(&mut self, path: Name, value: V) -> Result<(), AllocError>
+        ensures { OnOk result (self.new ≡ fin.insert self.old (plain_file path) value) }
     {
-        let id = vector.unique_id(self.alloc)?;
+        self.plain.insert(path, value)
+    }
+
+    fn insert_marked(&mut self, path: Name, id: Name, value: V) -> Result<(), AllocError>
+        ensures { OnOk result (self.new ≡ fin.insert self.old (marked_file path id) value) }
+    {
         put(&mut self.marked, self.alloc, path, id, value)
     }
 
@@ -254,5 +354,36 @@ impl<V: EqualCopy + Drop> ByFile<V> {
             plain,
             marked,
         })
+    }
+}
+
+/// Whether another map has all of these values under the same paths and ids.
+fn is_marked_within<V: SameValue + Drop>(
+    marked: &ByName<ByName<V>>,
+    others: &ByName<ByName<V>>,
+) -> bool
+    ensures { IsTrue result ↔ IsMarkedWithin marked.now others.now }
+{
+    for (path, files) in marked.entries() {
+        if !files.is_among(others.get(path.as_str())) {
+            return false;
+        }
+    }
+    true
+}
+
+impl<V: SameValue + Drop> ByFile<V> {
+    /// Whether another map has all of these values of the same files.
+    fn is_within(&self, other: &ByFile<V>) -> bool
+        ensures { IsTrue result ↔ IsWithin self.now other.now }
+    {
+        self.plain.is_within(&other.plain) && is_marked_within(&self.marked, &other.marked)
+    }
+
+    /// Whether the maps are equal.
+    pub(crate) fn is_same_map(&self, other: &ByFile<V>) -> bool
+        ensures { IsTrue result ↔ (self.now ≡ other.now) }
+    {
+        self.is_within(other) && other.is_within(self)
     }
 }

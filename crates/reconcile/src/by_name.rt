@@ -1,9 +1,12 @@
-ghost use Rattle.std.specs.Prelude.{◌≡◌, ◌↔◌, IsTrue, OnOk, OnErr, IfOk};
+ghost use Rattle.std.specs.Prelude.{◌≡◌, ◌↔◌, IsTrue, ◌<◌, Some, OnOk, OnErr, IfOk, IfSome, IfNone};
 ghost use Rattle.std.specs.Option.{option_copied};
 ghost use Rattle.std.specs.FinMap as fin;
 ghost use Rattle.action_types.specs.Files.{unique_id};
 ghost use Rattle.reconcile.specs.Named.{named};
+ghost use Rattle.reconcile.specs.Laying.{Strikes, LaysOver};
+ghost use Rattle.reconcile.specs.Within.{IsWithin, IsAmong};
 
+use crate::equal::SameValue;
 use action_types::{Name, Vector};
 use std::alloc::{AllocError, Global};
 use std::collections::BTreeMap;
@@ -87,6 +90,36 @@ impl<V: Drop> ByName<V> {
         self.entries.is_empty()
     }
 
+    /// Takes the value of the first name out, if there is one.
+    pub(crate) fn pop(&mut self) -> Option<(Name, V)>
+        ensures some { IfSome result (λ e. fin.get self.old e.0 ≡ Some e.1) }
+        ensures rest { IfSome result (λ e. self.new ≡ fin.remove self.old e.0) }
+        ensures none { IfNone result (self.old ≡ fin.empty) }
+        ensures shorter { IfSome result (λ _. fin.len self.new < fin.len self.old) }
+    {
+        let Some((name, value)) = self.entries.pop_first() else {
+            return None;
+        };
+        Some((Name::from_string(name), value))
+    }
+
+    /// Takes the names of another map away.
+    pub(crate) fn strike<W: Drop>(&mut self, names: &ByName<W>)
+        ensures { Strikes self.old names.now self.new }
+    {
+        for (name, _) in names.entries() {
+            self.remove(name.as_str());
+        }
+    }
+
+    /// Moves the values of another map here, each in place of an older one. Refused for want of memory alone.
+    pub(crate) fn lay(&mut self, newer: ByName<V>) -> Result<(), AllocError>
+        ensures { OnOk result (LaysOver self.old newer self.new) }
+    {
+        let mut newer = newer;
+        self.entries.append(&mut newer.entries)
+    }
+
     /// The names with their values in byte order of the names.
     pub(crate) fn entries(&self) -> Iter<'_, String, V>
         ensures { named result ≡ fin.entries self.now }
@@ -119,5 +152,46 @@ impl<V: EqualCopy + Drop> ByName<V> {
 impl<V: EqualCopy + Drop> EqualCopy for ByName<V> {
     fn equal_copy(&self) -> Result<ByName<V>, AllocError> {
         self.copy()
+    }
+}
+
+/// Whether a value that was told is this one.
+fn is_told<V: SameValue>(told: Option<&V>, value: &V) -> bool
+    ensures { IsTrue result ↔ (option_copied told.entry ≡ Some value.now) }
+{
+    match told {
+        Some(told) => told.is_same(value),
+        None => false,
+    }
+}
+
+impl<V: SameValue + Drop> ByName<V> {
+    /// Whether another map has all of these values under the same names.
+    pub(crate) fn is_within(&self, other: &ByName<V>) -> bool
+        ensures { IsTrue result ↔ IsWithin self.now other.now }
+    {
+        for (name, value) in self.entries() {
+            if !is_told(other.get(name.as_str()), value) {
+                return false;
+            }
+        }
+        true
+    }
+
+    /// The same, where the other map may be none at all.
+    pub(crate) fn is_among(&self, other: Option<&ByName<V>>) -> bool
+        ensures { IsTrue result ↔ IsAmong self.now (option_copied other.entry) }
+    {
+        match other {
+            Some(other) => self.is_within(other),
+            None => self.is_within(&ByName::new(self.alloc)),
+        }
+    }
+
+    /// Whether the maps are equal.
+    pub(crate) fn is_same_map(&self, other: &ByName<V>) -> bool
+        ensures { IsTrue result ↔ (self.now ≡ other.now) }
+    {
+        self.is_within(other) && other.is_within(self)
     }
 }

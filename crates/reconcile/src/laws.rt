@@ -1,9 +1,10 @@
-ghost use Rattle.std.specs.Prelude.{◌≡◌, ℕ, List, None};
+ghost use Rattle.std.specs.Prelude.{◌≡◌, ℕ, List, [], ◌++◌, None};
 ghost use Rattle.reconcile.specs.declared.state.State.{State};
 ghost use Rattle.reconcile.specs.Keys.{key_of, key_of_remove, key_cmp, name_cmp};
 ghost use Rattle.reconcile.specs.Replay.{Log, live_at, gone_at, txn_at, domain_at};
 ghost use Rattle.reconcile.specs.ByFile.{plain_file, marked_file};
 ghost use Rattle.reconcile.specs.Paths.{IsPlainLog, live_path, gone_path};
+ghost use Rattle.reconcile.specs.Newest.{IsAfter};
 ghost use Rattle.reconcile.specs.Standing.{StandsFor};
 ghost use Rattle.reconcile.specs.Walks.{Lists, files_of, tombstones_of, txns_of, domains_of};
 
@@ -18,6 +19,15 @@ pub fn walks_list_the_replay()
 /// Two states that stand for one log are equal.
 pub fn a_log_has_one_state()
     ensures { (s t : State) (log : Log) → StandsFor s log → StandsFor t log → s ≡ t }
+{}
+
+/// Commits on top of a base make one state, whatever the base: in one step, as commits that are read from the
+/// newest one back, or in several, as commits that are applied in rising order.
+pub fn a_base_and_commits_make_one_state()
+    ensures one { (s t base : State) (newer : Log) → IsAfter s base newer → IsAfter t base newer → s ≡ t }
+    ensures none { (base : State) → IsAfter base base [] }
+    ensures steps { (s t base : State) (older newer : Log) → IsAfter t base older → IsAfter s t newer
+        → IsAfter s base (older ++ newer) }
 {}
 
 /// On commits without deletion vectors and domains each path is a file, and no other file and no domain is

@@ -1,8 +1,9 @@
-ghost use Rattle.std.specs.Prelude.{◌≡◌, List, [], ◌∷◌, ◌++◌, None, Some, IfOk, option_map, fold};
+ghost use Rattle.std.specs.Prelude.{◌≡◌, ◌↔◌, IsTrue, List, [], ◌∷◌, ◌++◌, None, Some, IfOk, option_map, fold};
 ghost use Rattle.std.specs.Option.{option_copied};
 
 use crate::by_file::ByFile;
 use crate::by_name::{ByName, EqualCopy};
+use crate::equal::{is_same_meta, is_same_protocol};
 use crate::walks::{DomainWalk, FileWalk, GoneWalk, TxnWalk};
 use action_types::{Action, Add, Domain, Key, Meta, Protocol, Remove, Txn};
 use std::alloc::{AllocError, Global};
@@ -12,13 +13,13 @@ use std::alloc::{AllocError, Global};
 /// file is a path and the unique id of its deletion vector, or a path without one.
 #[derive(Drop)]
 pub struct State {
-    live: ByFile<Add>,
-    gone: ByFile<Remove>,
-    txns: ByName<Txn>,
-    domains: ByName<Domain>,
-    protocol: Option<Protocol>,
-    meta: Option<Meta>,
-    time: Option<i64>,
+    pub(crate) live: ByFile<Add>,
+    pub(crate) gone: ByFile<Remove>,
+    pub(crate) txns: ByName<Txn>,
+    pub(crate) domains: ByName<Domain>,
+    pub(crate) protocol: Option<Protocol>,
+    pub(crate) meta: Option<Meta>,
+    pub(crate) time: Option<i64>,
 }
 
 impl State {
@@ -26,7 +27,9 @@ impl State {
     ghost use Rattle.action_types.specs.Files.{file_of_key};
     ghost use Rattle.reconcile.specs.Replay.{Log};
     ghost use Rattle.reconcile.specs.Standing.{StandsFor, HasTableOf, live_in, gone_in, txn_in, domain_in, protocol_in, meta_in, time_in, files_in, tombstones_in, txns_in, domains_in};
-    ghost use Rattle.reconcile.specs.Steps.{after, timed};
+    ghost use Rattle.reconcile.specs.Newest.{IsAfter};
+    ghost use Rattle.reconcile.specs.Steps.{after, cleared, holding, timed};
+    ghost use Rattle.std.specs.FinMap as fin;
     ghost use Rattle.reconcile.specs.Walks.{files_of, tombstones_of, txns_of, domains_of};
 
     /// The state of no commits.
@@ -49,8 +52,18 @@ impl State {
     pub fn apply(self, actions: &[Action]) -> Result<State, AllocError>
         ensures stands { (log : Log) → StandsFor self log → IfOk result (λ s. StandsFor s (log ++ actions.now ∷ [])) }
         ensures on_table { (log : Log) → HasTableOf self log → IfOk result (λ s. StandsFor s (log ++ actions.now ∷ [])) }
+        ensures on_base { IfOk result (λ s. IsAfter s self (actions.now ∷ [])) }
     {
         self.untimed().with_actions(actions)
+    }
+
+    /// As `apply`, with the actions given away: what the state keeps of them is moved into it.
+    pub fn apply_owned(self, actions: Vec<Action>) -> Result<State, AllocError>
+        ensures stands { (log : Log) → StandsFor self log → IfOk result (λ s. StandsFor s (log ++ actions.items ∷ [])) }
+        ensures on_table { (log : Log) → HasTableOf self log → IfOk result (λ s. StandsFor s (log ++ actions.items ∷ [])) }
+        ensures on_base { IfOk result (λ s. IsAfter s self (actions.items ∷ [])) }
+    {
+        self.untimed().with_owned_actions(actions)
     }
 
     fn untimed(self) -> State
@@ -71,18 +84,125 @@ impl State {
         Ok(state)
     }
 
+    fn with_owned_actions(self, actions: Vec<Action>) -> Result<State, AllocError>
+        ensures { IfOk result (λ s. s ≡ fold after self actions.items) }
+    {
+        let mut state = self;
+        for action in actions {
+            state = state.with_owned_action(action)?;
+        }
+        Ok(state)
+    }
+
     fn with_action(self, action: &Action) -> Result<State, AllocError>
         ensures { IfOk result (λ s. s ≡ after self action.now) }
     {
+        self.cleared(action)?.holding_copy(action)
+    }
+
+    fn with_owned_action(self, action: Action) -> Result<State, AllocError>
+        ensures { IfOk result (λ s. s ≡ after self action) }
+    {
+        self.cleared(&action)?.holding(action)
+    }
+
+    /// The state without what an action puts an end to.
+    fn cleared(self, action: &Action) -> Result<State, AllocError>
+        ensures { IfOk result (λ s. s ≡ cleared self action.now) }
+    {
+        match action {
+            Action::Domain(domain) => Ok(self.without_domain(domain)),
+            Action::Remove(remove) => self.without_file(remove),
+            Action::Add(add) => self.without_tombstone(add),
+            _ => Ok(self),
+        }
+    }
+
+    fn without_domain(self, domain: &Domain) -> State
+        ensures { result ≡ cleared self (act.Domain domain.now) }
+    {
+        let mut state = self;
+        if domain.removed {
+            state.domains.remove(domain.domain.as_str());
+            return state;
+        }
+        state
+    }
+
+    fn without_file(self, remove: &Remove) -> Result<State, AllocError>
+        ensures { IfOk result (λ s. s ≡ cleared self (act.Remove remove.now)) }
+    {
+        let mut state = self;
+        state.live.remove(remove.key())?;
+        Ok(state)
+    }
+
+    fn without_tombstone(self, add: &Add) -> Result<State, AllocError>
+        ensures { IfOk result (λ s. s ≡ cleared self (act.Add add.now)) }
+    {
+        let mut state = self;
+        state.gone.remove(add.key())?;
+        Ok(state)
+    }
+
+    /// The state with what an action says of what it names.
+    pub(crate) fn holding(self, action: Action) -> Result<State, AllocError>
+        ensures { IfOk result (λ s. s ≡ holding self action) }
+    {
         match action {
             Action::Info(info) => Ok(self.with_time(info.time)),
-            Action::Protocol(protocol) => self.with_protocol(protocol),
-            Action::Meta(meta) => self.with_meta(meta),
+            Action::Protocol(protocol) => Ok(self.with_protocol(protocol)),
+            Action::Meta(meta) => Ok(self.with_meta(meta)),
             Action::Txn(txn) => self.with_txn(txn),
-            Action::Domain(domain) => self.with_domain(domain),
+            Action::Domain(domain) => self.holding_domain(domain),
             Action::Remove(remove) => self.with_tombstone(remove),
             Action::Add(add) => self.with_file(add),
         }
+    }
+
+    /// The state with a copy of what an action says of what it names.
+    pub(crate) fn holding_copy(self, action: &Action) -> Result<State, AllocError>
+        ensures { IfOk result (λ s. s ≡ holding self action.now) }
+    {
+        match action {
+            Action::Info(info) => Ok(self.with_time(info.time)),
+            Action::Protocol(protocol) => self.copying_protocol(protocol),
+            Action::Meta(meta) => self.copying_meta(meta),
+            Action::Txn(txn) => self.copying_txn(txn),
+            Action::Domain(domain) => self.copying_domain(domain),
+            Action::Remove(remove) => self.copying_tombstone(remove),
+            Action::Add(add) => self.copying_file(add),
+        }
+    }
+
+    fn copying_protocol(self, protocol: &Protocol) -> Result<State, AllocError>
+        ensures { IfOk result (λ s. s ≡ holding self (act.Protocol protocol.now)) }
+    {
+        Ok(self.with_protocol(protocol.copy()?))
+    }
+
+    fn copying_meta(self, meta: &Meta) -> Result<State, AllocError>
+        ensures { IfOk result (λ s. s ≡ holding self (act.Meta meta.now)) }
+    {
+        Ok(self.with_meta(meta.copy()?))
+    }
+
+    fn copying_txn(self, txn: &Txn) -> Result<State, AllocError>
+        ensures { IfOk result (λ s. s ≡ holding self (act.Txn txn.now)) }
+    {
+        self.with_txn(txn.copy()?)
+    }
+
+    fn copying_tombstone(self, remove: &Remove) -> Result<State, AllocError>
+        ensures { IfOk result (λ s. s ≡ holding self (act.Remove remove.now)) }
+    {
+        self.with_tombstone(remove.copy()?)
+    }
+
+    fn copying_file(self, add: &Add) -> Result<State, AllocError>
+        ensures { IfOk result (λ s. s ≡ holding self (act.Add add.now)) }
+    {
+        self.with_file(add.copy()?)
     }
 
     /// The same state at this time, in milliseconds since 1970 UTC.
@@ -94,61 +214,75 @@ impl State {
         state
     }
 
-    fn with_protocol(self, protocol: &Protocol) -> Result<State, AllocError>
-        ensures { IfOk result (λ s. s ≡ record self { protocol = Some protocol.now }) }
+    pub(crate) fn with_protocol(self, protocol: Protocol) -> State
+        ensures { result ≡ holding self (act.Protocol protocol) }
     {
         let mut state = self;
-        state.protocol = Some(protocol.copy()?);
+        state.protocol = Some(protocol);
+        state
+    }
+
+    pub(crate) fn with_meta(self, meta: Meta) -> State
+        ensures { result ≡ holding self (act.Meta meta) }
+    {
+        let mut state = self;
+        state.meta = Some(meta);
+        state
+    }
+
+    fn with_txn(self, txn: Txn) -> Result<State, AllocError>
+        ensures { IfOk result (λ s. s ≡ holding self (act.Txn txn)) }
+    {
+        let mut state = self;
+        state.txns.insert(txn.app.copy()?, txn)?;
         Ok(state)
     }
 
-    fn with_meta(self, meta: &Meta) -> Result<State, AllocError>
-        ensures { IfOk result (λ s. s ≡ record self { meta = Some meta.now }) }
+    fn with_domain(self, domain: Domain) -> Result<State, AllocError>
+        ensures { IfOk result (λ s. s ≡ record self { domains = fin.insert self.domains domain.domain domain }) }
     {
         let mut state = self;
-        state.meta = Some(meta.copy()?);
+        state.domains.insert(domain.domain.copy()?, domain)?;
         Ok(state)
     }
 
-    fn with_txn(self, txn: &Txn) -> Result<State, AllocError>
-        ensures { IfOk result (λ s. s ≡ after self (act.Txn txn.now)) }
+    fn holding_domain(self, domain: Domain) -> Result<State, AllocError>
+        ensures { IfOk result (λ s. s ≡ holding self (act.Domain domain)) }
     {
-        let mut state = self;
-        state.txns.insert(txn.app.copy()?, txn.copy()?)?;
-        Ok(state)
-    }
-
-    fn with_domain(self, domain: &Domain) -> Result<State, AllocError>
-        ensures { IfOk result (λ s. s ≡ after self (act.Domain domain.now)) }
-    {
-        let mut state = self;
-        if domain.removed {
-            state.domains.remove(domain.domain.as_str());
-            return Ok(state);
+        if !domain.removed {
+            return self.with_domain(domain);
         }
-        state.domains.insert(domain.domain.copy()?, domain.copy()?)?;
+        Ok(self)
+    }
+
+    fn copying_domain(self, domain: &Domain) -> Result<State, AllocError>
+        ensures { IfOk result (λ s. s ≡ holding self (act.Domain domain.now)) }
+    {
+        if !domain.removed {
+            return self.with_domain(domain.copy()?);
+        }
+        Ok(self)
+    }
+
+    fn with_tombstone(self, remove: Remove) -> Result<State, AllocError>
+        ensures { IfOk result (λ s. s ≡ holding self (act.Remove remove)) }
+    {
+        let mut state = self;
+        let mut kept = remove;
+        kept.change = false;
+        let file = state.gone.name(kept.key())?;
+        state.gone.insert(file, kept)?;
         Ok(state)
     }
 
-    fn with_tombstone(self, remove: &Remove) -> Result<State, AllocError>
-        ensures { IfOk result (λ s. s ≡ after self (act.Remove remove.now)) }
+    fn with_file(self, add: Add) -> Result<State, AllocError>
+        ensures { IfOk result (λ s. s ≡ holding self (act.Add add)) }
     {
         let mut state = self;
-        let mut kept = remove.copy()?;
+        let mut kept = add;
         kept.change = false;
-        state.live.remove(remove.key())?;
-        state.gone.insert(remove.key(), kept)?;
-        Ok(state)
-    }
-
-    fn with_file(self, add: &Add) -> Result<State, AllocError>
-        ensures { IfOk result (λ s. s ≡ after self (act.Add add.now)) }
-    {
-        let mut state = self;
-        let mut kept = add.copy()?;
-        kept.change = false;
-        state.gone.remove(add.key())?;
-        state.live.insert(add.key(), kept)?;
+        let file = state.live.name(kept.key())?;
+        state.live.insert(file, kept)?;
         Ok(state)
     }
 
@@ -245,6 +379,32 @@ impl State {
         DomainWalk {
             rest: self.domains.values(),
         }
+    }
+
+    /// Whether two states are equal but for their time. It takes no memory; each value is looked up in the
+    /// other state.
+    pub fn same_table(&self, other: &State) -> bool
+        ensures { IsTrue result ↔ (self.now ≡ timed other.now (time_in self.now)) }
+    {
+        self.has_files_of(other) && self.has_names_of(other) && self.has_rest_of(other)
+    }
+
+    fn has_files_of(&self, other: &State) -> bool
+        ensures { IsTrue result ↔ ((self.now.live ≡ other.now.live) × (self.now.gone ≡ other.now.gone)) }
+    {
+        self.live.is_same_map(&other.live) && self.gone.is_same_map(&other.gone)
+    }
+
+    fn has_names_of(&self, other: &State) -> bool
+        ensures { IsTrue result ↔ ((self.now.txns ≡ other.now.txns) × (self.now.domains ≡ other.now.domains)) }
+    {
+        self.txns.is_same_map(&other.txns) && self.domains.is_same_map(&other.domains)
+    }
+
+    fn has_rest_of(&self, other: &State) -> bool
+        ensures { IsTrue result ↔ ((self.now.protocol ≡ other.now.protocol) × (self.now.meta ≡ other.now.meta)) }
+    {
+        is_same_protocol(&self.protocol, &other.protocol) && is_same_meta(&self.meta, &other.meta)
     }
 
     /// An equal state; refused for want of memory alone.

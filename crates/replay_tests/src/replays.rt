@@ -2,7 +2,8 @@
 
 use action_types::{Action, Info, Name, Txn, Vector};
 use commit_shorts::{add, domain, meta, path_of, protocol, remove, vector_of};
-use reconcile::{Key, State, plain};
+use plain_replay::plain;
+use reconcile::{Key, NewestFirst, State};
 use std::alloc::{AllocError, Global};
 use std::test::Fail;
 
@@ -139,6 +140,26 @@ fn copy_seen(alloc: Global, time: i64) -> Result<Seen, Fail> {
     Ok(look_at(&copy.with_time(time)))
 }
 
+/// The state of that table, its commits read from the newest one back down to one, over the state of those
+/// before.
+fn newest_state(alloc: Global, base: usize) -> Result<State, Fail> {
+    let mut newest = NewestFirst::new(alloc);
+    for shorts in WORKED[base.min(4)..].iter().rev() {
+        newest = newest.older(commit(alloc, shorts)?.as_slice())?;
+    }
+    Ok(newest.over(worked_state(alloc, base)?)?)
+}
+
+fn newest_seen(alloc: Global, base: usize) -> Result<Seen, Fail> {
+    Ok(look_at(&newest_state(alloc, base)?))
+}
+
+/// Whether the state of that table is the one of its first commits, in both orders of asking.
+fn same_as_first(alloc: Global, state: State, len: usize) -> Result<bool, Fail> {
+    let first = worked_state(alloc, len)?;
+    Ok(state.same_table(&first) && first.same_table(&state))
+}
+
 #[test]
 fn remove_and_add_again(rt: HostRuntime) -> Result<(), Fail> {
     let removed = Seen {
@@ -156,6 +177,25 @@ fn remove_and_add_again(rt: HostRuntime) -> Result<(), Fail> {
     assert_eq!(rt; worked_seen(rt.alloc(), 3)?, removed);
     assert_eq!(rt; worked_seen(rt.alloc(), 4)?, added);
     assert_eq!(rt; copy_seen(rt.alloc(), 1003)?, added);
+    for base in 0..5usize {
+        assert_eq!(rt; newest_seen(rt.alloc(), base)?, added);
+    }
+    Ok(())
+}
+
+#[test]
+fn one_table_whatever_the_time(rt: HostRuntime) -> Result<(), Fail> {
+    let copy = worked_state(rt.alloc(), 4)?.copy()?.with_time(5);
+    assert!(rt; same_as_first(rt.alloc(), copy, 4)?);
+    for base in 0..5usize {
+        assert!(rt; same_as_first(rt.alloc(), newest_state(rt.alloc(), base)?, 4)?);
+    }
+    for len in 0..4usize {
+        assert!(rt;
+            !same_as_first(rt.alloc(), worked_state(rt.alloc(), 4)?, len)?,
+            "{len} commits"
+        );
+    }
     Ok(())
 }
 
@@ -287,11 +327,53 @@ fn same(state: &State, commits: &[Vec<Action>]) -> bool {
         && table_agrees(state, commits)
 }
 
-/// Whether the state of a made list of commits is what the plain search finds.
+fn as_searched(alloc: Global, state: &State, commits: &[Vec<Action>]) -> Result<bool, Fail> {
+    Ok(same(state, commits) && look_ups_agree(alloc, state, commits)?)
+}
+
+/// The state of commits, the last of them read from the newest one back.
+fn newest_over(alloc: Global, commits: &[Vec<Action>], base: usize) -> Result<State, Fail> {
+    let base = base.min(commits.len());
+    let mut newest = NewestFirst::new(alloc);
+    for commit in commits[base..].iter().rev() {
+        newest = newest.older(commit.as_slice())?;
+    }
+    Ok(newest.over(state_of(alloc, &commits[..base])?)?)
+}
+
+fn made_commit(alloc: Global, seed: u64) -> Result<Vec<Action>, Fail> {
+    commit(alloc, &made(seed))
+}
+
+/// The state of a made list of commits, each given away: the first ones applied, the others read from the
+/// newest one back.
+fn owned_over(alloc: Global, seed: u64, base: u64, len: u64) -> Result<State, Fail> {
+    let mut state = State::empty(alloc);
+    for version in 0..base {
+        state = state.apply_owned(made_commit(alloc, seed.wrapping_add(version))?)?;
+    }
+    let mut newest = NewestFirst::new(alloc);
+    for version in (base..len).rev() {
+        newest = newest.older_owned(made_commit(alloc, seed.wrapping_add(version))?)?;
+    }
+    Ok(newest.over(state)?)
+}
+
+/// Whether the state of a made list of commits, with two thirds of them read from the newest one back too,
+/// is what the plain search finds.
 fn made_log_agrees(alloc: Global, seed: u64, len: u64) -> Result<bool, Fail> {
     let commits = made_log(alloc, seed, len)?;
-    let state = state_of(alloc, commits.as_slice())?;
-    Ok(same(&state, commits.as_slice()) && look_ups_agree(alloc, &state, commits.as_slice())?)
+    let commits = commits.as_slice();
+    let applied = state_of(alloc, commits)?;
+    let newest = newest_over(alloc, commits, commits.len() / 3)?;
+    let owned = owned_over(alloc, seed, len / 3, len)?;
+    Ok(
+        as_searched(alloc, &applied, commits)?
+            && as_searched(alloc, &newest, commits)?
+            && as_searched(alloc, &owned, commits)?
+            && newest.same_table(&applied)
+            && applied.same_table(&owned),
+    )
 }
 
 #[test]
@@ -302,6 +384,7 @@ fn made_logs_as_the_plain_search(rt: HostRuntime) -> Result<(), Fail> {
             "log {seed}"
         );
     }
+    assert!(rt; made_log_agrees(rt.alloc(), 4000, 240)?);
     Ok(())
 }
 

@@ -7,7 +7,6 @@ use Rattle.reconcile.proofs.by_file.ByFile.insert_plain.Goals as goal
 pub returns : goal.returns
 returns g c =
     on_ok c.insert.result
-    (λ e. by_file-insert_plain c.self.inside.plain c.insert.new.self c.self.inside.marked c.args.path.now c.args.value
-    (e ∙ ap (λ k. fin.insert c.self.inside.plain k c.args.value) c.in_ok-from_str.ensures)
-    ∙ ap (λ m. fin.insert m (plain_file c.args.path.now) c.args.value) c.self.view_is)
+    (λ e. by_file-insert_plain c.self.inside.plain c.insert.new.self c.self.inside.marked c.args.path c.args.value e
+    ∙ ap (λ m. fin.insert m (plain_file c.args.path) c.args.value) c.self.view_is)
     c.insert.ensures.ok

@@ -1,8 +1,12 @@
-use Rattle.reconcile.proofs.Standing.{applied}
+use Rattle.std.proofs.Common.{[], ◌∷◌}
+use Rattle.reconcile.proofs.Standing.{applied, if_ok, StandsFor-after, StandsFor-commits}
 use Rattle.reconcile.proofs.state.State.apply.Goals as goal
 
 pub returns : goal.returns
-returns c = record {
-  stands = λ log h. applied c.with_actions.result c.args.self c.untimed.result c.args.actions.now c.untimed.ensures c.with_actions.ensures log h.table;
-  on_table = applied c.with_actions.result c.args.self c.untimed.result c.args.actions.now c.untimed.ensures c.with_actions.ensures;
-}
+returns c =
+    let made = applied c.with_actions.result c.args.self c.untimed.result c.args.actions.now c.untimed.ensures c.with_actions.ensures in
+    record {
+      stands = λ log h. if_ok c.with_actions.result (λ s a. StandsFor-after s c.args.self log (c.args.actions.now ∷ []) h a) made;
+      on_table = λ log h. if_ok c.with_actions.result (λ s a. StandsFor-commits s c.args.self log c.args.actions.now [] h a) made;
+      on_base = made;
+    }
