@@ -29,7 +29,7 @@ fn read_vector(alloc: Global, value: &Tree<'_>) -> Result<Vector, BadBody>
 }
 
 /// An object with the fields of a deletion vector; refused for want of memory alone.
-// Not inlined, since few files have a vector and each body is looked at for one.
+// Each body of a file is looked at for a vector, and few have one: the lookup is inlined, and what it finds is read apart.
 #[inline(never)]
 pub(crate) fn vector_of(alloc: Global, value: &Tree<'_>) -> Result<Option<Vector>, AllocError>
     ensures { IfOk result (λ o. o ≡ vector (view value.now)) }

@@ -29,7 +29,6 @@ pub(crate) fn is_blank(line: &[u8]) -> bool
 }
 
 /// What a line says; `first` where no line before it says anything. An error is its first reason, or want of memory.
-#[inline(never)]
 #[tactic(auto, unfolding(crate::specs::Lines::line_of))]
 pub(crate) fn read_line<'a>(
     alloc: Global,
