@@ -5,3 +5,7 @@ pub mod Timeless
 pub mod Answered
 pub mod Pushing
 pub mod Version
+pub mod Once
+pub mod Kept
+pub mod Tables
+pub mod Written

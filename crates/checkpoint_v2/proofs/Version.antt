@@ -1,5 +1,5 @@
 -- The line of a version: its tokens, and that it is read.
-use Rattle.std.proofs.Common.{◌≡◌, ◌≢◌, ℕ, ◌<◌, ◌^◌, ◌==◌, not, List, [], ◌∷◌, ◌++◌, codes, decimal, true, false, Result, Ok, Some, refl, sym, ap, ◌∙◌, append_assoc, append-nil, arith}
+use Rattle.std.proofs.Common.{◌≡◌, ◌≢◌, ℕ, ◌<◌, ◌^◌, List, [], ◌∷◌, ◌++◌, codes, true, false, Result, Ok, Some, refl, sym, ap, ◌∙◌, append_assoc, append-nil, arith}
 use Rattle.std.specs.Str.{is_utf8}
 use Rattle.std.proofs.lemmas.List.Elements.{All-append, All-cons, All-nil}
 use Rattle.json.specs.Print.{quoted}
@@ -11,7 +11,7 @@ use Rattle.serde_json.specs.Read.{read}
 use Rattle.serde_json.specs.Written.{compact_text}
 use Rattle.serde_json.proofs.Numbers.{number_of-decimal}
 use Rattle.text_lines.specs.Lines.{HasNoLf, is_blank}
-use Rattle.action_fields.specs.Tokens.{Puts, data_tokens, field_tokens, fields_tokens}
+use Rattle.action_fields.specs.Tokens.{Puts, data_tokens, field_tokens}
 use Rattle.action_fields.specs.Checkpoints.{version_of}
 use Rattle.action_fields.specs.Bodies.{required}
 use Rattle.action_fields.specs.Kinds.{kind_named}

@@ -1,5 +1,5 @@
 -- The canonical text of a checkpoint: its lines in one order, each canonical.
-use Rattle.std.specs.Prelude.{◌≡◌, ℕ, ◌++◌, true, List, [], ◌∷◌, map, flat_map, codes, Option, Some, None, is_some, Result, OnOk}
+use Rattle.std.specs.Prelude.{◌≡◌, ℕ, ◌++◌, true, List, [], ◌∷◌, map, codes, Option, Some, None, is_some, Result, OnOk}
 use Rattle.std.specs.List.{AllByRecursion}
 use Rattle.serde_json.specs.Data.{Data, unsigned, number, object, no_members, member}
 use Rattle.serde_json.specs.Written.{compact_text}
@@ -8,7 +8,6 @@ use Rattle.action_types.specs.declared.actions.Action.{Action}
 use Rattle.action_types.specs.declared.actions.Action.TheVariants as action
 use Rattle.action_types.specs.declared.actions.Protocol.{Protocol}
 use Rattle.action_types.specs.declared.actions.Meta.{Meta}
-use Rattle.action_fields.specs.Canonical.{canonical_line}
 use Rattle.action_fields.specs.Kinds.{kind_name}
 use Rattle.action_fields.specs.Valid.{has_valid_fields}
 use Rattle.action_fields.specs.declared.kind.Kind.TheVariants as kind
@@ -44,8 +43,8 @@ table_actions s =
     ++ (map action.Remove (tombstones_in s) ++ map action.Add (files_in s)))))
 
 -- the line of the version and one for each action, each ended by LF
-unfoldable pub checkpoint_text : ℕ → State → List ℕ
-checkpoint_text version s = with_lf (version_line version) ++ canonical_text (table_actions s)
+unfoldable pub canonical_checkpoint : ℕ → State → List ℕ
+canonical_checkpoint version s = with_lf (version_line version) ++ canonical_text (table_actions s)
 
 -- a table that a checkpoint can hold
 pub record HasProtocolAndMeta (s : State) : Type 0 where

@@ -6,7 +6,7 @@ ghost use Rattle.action_fields.specs.Tokens.{Puts, data_tokens};
 ghost use Rattle.action_json.specs.Commit.{AreWritten};
 ghost use Rattle.reconcile.specs.Replay.{Log};
 ghost use Rattle.reconcile.specs.Standing.{HasTableOf, protocol_in, meta_in, txns_in, domains_in, tombstones_in, files_in};
-ghost use Rattle.checkpoint_v2.specs.Canonical.{HasProtocolAndMeta, HasValidFields, Pushes, checkpoint_text, meta_action, metadata_data, protocol_action, table_actions, version_data, version_line};
+ghost use Rattle.checkpoint_v2.specs.Canonical.{HasProtocolAndMeta, HasValidFields, Pushes, canonical_checkpoint, meta_action, metadata_data, protocol_action, table_actions, version_data, version_line};
 ghost use Rattle.checkpoint_v2.specs.Table.{IsCheckpointOf};
 
 use action_fields::{push_add_line, push_line, push_remove_line};
@@ -20,7 +20,7 @@ use std::alloc::{AllocError, Global};
 /// of files. Each line is canonical and ended by LF. Refused for want of memory alone.
 pub fn write_checkpoint(alloc: Global, version: u64, state: &State) -> Result<Vec<u8>, AllocError>
     requires { HasProtocolAndMeta state.now }
-    ensures text { IfOk result (λ v. v.items ≡ checkpoint_text version state.now) }
+    ensures text { IfOk result (λ v. v.items ≡ canonical_checkpoint version state.now) }
     // It is a checkpoint of every log whose table the state has, where the fields of its actions are valid.
     ensures of_logs { (log : Log) → HasTableOf state.now log → HasValidFields log
         → IfOk result (λ v. IsCheckpointOf v.items version log) }
@@ -28,9 +28,9 @@ pub fn write_checkpoint(alloc: Global, version: u64, state: &State) -> Result<Ve
     write_lines(alloc, version, state)
 }
 
-#[tactic(auto, unfolding(crate::specs::Canonical::checkpoint_text))]
+#[tactic(auto, unfolding(crate::specs::Canonical::canonical_checkpoint))]
 fn write_lines(alloc: Global, version: u64, state: &State) -> Result<Vec<u8>, AllocError>
-    ensures text { IfOk result (λ v. v.items ≡ checkpoint_text version state.now) }
+    ensures text { IfOk result (λ v. v.items ≡ canonical_checkpoint version state.now) }
     ensures utf8 { OnOk result (is_utf8 (version_line version) ≡ true) }
     ensures written { OnOk result (AreWritten (table_actions state.now)) }
 {
