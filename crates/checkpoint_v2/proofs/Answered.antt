@@ -1,17 +1,17 @@
 -- What the calls' clauses say of their results.
-use Rattle.std.proofs.Common.{◌≡◌, ◌↔◌, ℕ, List, [], ◌∷◌, Option, Some, None, Result, Ok, Err, IfOk, IfErr, refl, sym, ap, ◌∙◌, subst}
-use Rattle.std.specs.Prelude.{⊤, MatchOption, option_and_then}
+use Rattle.std.proofs.Common.{◌≡◌, ◌↔◌, ℕ, List, [], ◌∷◌, Option, Some, None, Result, Ok, Err, IfOk, IfErr, sym, ap, ◌∙◌, subst}
+use Rattle.std.specs.Prelude.{⊤, MatchOption}
 use Rattle.std.proofs.lemmas.Result.{MatchResult-at_ok, MatchResult-at_err}
 use Rattle.text_lines.specs.Lines.{cut}
 use Rattle.action_types.specs.declared.actions.Action.{Action}
 use Rattle.reconcile.specs.Replay.{Log, last_said, time_said, time_of_log}
-use Rattle.reconcile.specs.Standing.{HasTableOf, StandsFor, time_in}
+use Rattle.reconcile.specs.Standing.{HasTableOf, time_in}
 use Rattle.reconcile.specs.declared.state.State.{State}
 use Rattle.checkpoint_v2.specs.Left.{Reads}
 use Rattle.checkpoint_v2.specs.Outcome.{Read, told, outcome}
 use Rattle.checkpoint_v2.specs.Refused.{IsRefusedFor}
 use Rattle.checkpoint_v2.specs.Table.{HasSameTable, IsCheckpointOf}
-use Rattle.checkpoint_v2.specs.Text.{actions_of, IsCheckpointText}
+use Rattle.checkpoint_v2.specs.Text.{IsCheckpointText}
 use Rattle.checkpoint_v2.specs.declared.fault.BadCheckpoint.{BadCheckpoint}
 use Rattle.checkpoint_v2.specs.declared.fault.BadCheckpoint.TheVariants as bad
 use Rattle.checkpoint_v2.proofs.Sound.{told_outcome, one_reading, not_both}

@@ -3,3 +3,9 @@ pub mod Counts
 pub mod Sound
 pub mod Timeless
 pub mod Answered
+pub mod Pushing
+pub mod Version
+pub mod Once
+pub mod Kept
+pub mod Tables
+pub mod Written

@@ -1,12 +1,11 @@
 -- The reading line by line gives a checkpoint text of its actions, or the fault of bytes that are none.
-use Rattle.std.proofs.Common.{◌≡◌, ◌==◌, ℕ, ◌+◌, List, [], ◌∷◌, ◌++◌, length, Bool, true, false, ◌&&◌, Option, Some, None, option_map, Result, Ok, Err, MatchResult, refl, sym, ap, ◌∙◌, subst, append_assoc, append-nil, length-append, eqb-true, if◌then◌else◌}
+use Rattle.std.proofs.Common.{◌≡◌, ◌==◌, ℕ, ◌+◌, List, [], ◌∷◌, ◌++◌, length, Bool, true, false, Option, Some, None, option_map, Result, Ok, Err, MatchResult, refl, sym, ap, ◌∙◌, subst, append_assoc, append-nil, length-append, eqb-true, if◌then◌else◌}
 use Rattle.std.specs.List.{AllByRecursion, list_any}
 use Rattle.std.proofs.lemmas.Bool.{and_parts, eqb-false}
 use Rattle.std.proofs.lemmas.Grind.{flat_map-append}
 use Rattle.text_lines.specs.Lines.{cut}
 use Rattle.action_types.specs.declared.actions.Action.{Action}
 use Rattle.action_fields.specs.Canonical.{kind_of}
-use Rattle.action_fields.specs.declared.kind.Kind.{Kind}
 use Rattle.action_fields.specs.declared.kind.Kind.TheVariants as kind
 use Rattle.action_json.specs.CheckpointLines.{checkpoint_line_of}
 use Rattle.action_json.specs.Commit.{double_of, is_protocol, is_meta}

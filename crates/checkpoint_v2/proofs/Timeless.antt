@@ -1,13 +1,12 @@
 -- No line of a checkpoint says a time.
-use Rattle.std.proofs.Common.{◌≡◌, ℕ, List, [], ◌∷◌, ◌++◌, Bool, true, false, codes, Option, Some, None, is_some, Result, Ok, Err, IfOk, if◌then◌else◌, refl, sym, ap, ◌∙◌, subst}
+use Rattle.std.proofs.Common.{◌≡◌, ℕ, List, [], ◌∷◌, ◌++◌, Bool, true, false, codes, Option, Some, None, is_some, Result, Ok, Err, IfOk, if◌then◌else◌, refl}
 use Rattle.std.specs.Prelude.{⊤}
 use Rattle.std.specs.Str.{is_utf8}
-use Rattle.text_lines.specs.Lines.{cut, is_blank}
+use Rattle.text_lines.specs.Lines.{is_blank}
 use Rattle.serde_json.specs.Data.{Data}
 use Rattle.serde_json.specs.Find.{as_object}
 use Rattle.serde_json.specs.Read.{read}
 use Rattle.action_types.specs.declared.actions.Action.{Action}
-use Rattle.action_types.specs.declared.actions.Action.TheVariants as action
 use Rattle.action_fields.specs.Bodies.{required, optional, or_empty, vector, protocol, meta, txn, domain, remove, add, fields_of, body_of}
 use Rattle.action_fields.specs.Checkpoints.{version_of, sidecar_of}
 use Rattle.action_fields.specs.Gives.{◌>>=◌}
@@ -15,7 +14,7 @@ use Rattle.action_fields.specs.Kinds.{kind_named}
 use Rattle.action_fields.specs.Types.{text, integer, from_zero, flag, path, names, pairs, format}
 use Rattle.action_fields.specs.declared.kind.Kind.{Kind}
 use Rattle.action_fields.specs.declared.kind.Kind.TheVariants as kind
-use Rattle.action_json.specs.CheckpointLines.{is_removed, unless_removed, action_said, version_said, sidecar_said, checkpoint_body, of_kind, checkpoint_member, checkpoint_text, checkpoint_line_of}
+use Rattle.action_json.specs.CheckpointLines.{is_removed, action_said, version_said, sidecar_said, of_kind, checkpoint_member, checkpoint_text, checkpoint_line_of}
 use Rattle.action_json.specs.Lines.{or_why, only_member}
 use Rattle.action_json.specs.declared.checkpoint_line.CheckpointLine.{CheckpointLine}
 use Rattle.action_json.specs.declared.checkpoint_line.CheckpointLine.TheVariants as says

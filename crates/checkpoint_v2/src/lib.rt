@@ -3,6 +3,8 @@
 
 mod fault;
 mod reading;
+mod writing;
 
 pub use fault::BadCheckpoint;
 pub use reading::read_checkpoint;
+pub use writing::write_checkpoint;
