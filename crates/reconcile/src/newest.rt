@@ -27,7 +27,8 @@ impl NewestFirst {
     ghost use Rattle.reconcile.specs.Newer.{Newer};
     ghost use Rattle.reconcile.specs.Standing.{StandsFor, HasTableOf};
     ghost use Rattle.reconcile.specs.Steps.{holding};
-    ghost use Rattle.reconcile.specs.StepsBack.{is_decided, is_file_decided, is_domain_decided, dropping, with_newer, settled, before, all_before, older, IsOver};
+    ghost use Rattle.reconcile.specs.StepsBack.{is_decided, is_file_decided, is_domain_decided};
+    ghost use Rattle.reconcile.specs.StepsBack.{dropping, settled, before, all_before, IsOver};
 
     /// What no commits decide.
     pub fn new(alloc: Global) -> NewestFirst
@@ -278,7 +279,11 @@ fn under_rest(
     begun: bool,
     time: Option<i64>,
 ) -> State
-    ensures { result ≡ record base { protocol = or_else protocol base.protocol; meta = or_else meta base.meta; time = (if begun then time else base.time) } }
+    ensures { result ≡ record base {
+      protocol = or_else protocol base.protocol;
+      meta = or_else meta base.meta;
+      time = (if begun then time else base.time);
+    } }
 {
     let state = under_protocol(base, protocol);
     let state = under_meta(state, meta);
