@@ -1,4 +1,4 @@
--- What is true of a world stays so where a caller is split off, and where two are joined.
+-- What is true of a world stays so where two callers are joined.
 use Rattle.std.proofs.Common.{◌≡◌, ◌<◌, ◌≤◌, ◌⊎◌, inl, inr, ℕ, List, ◌++◌, length, take, drop, refl, sym, subst, arith, IsTrue, max}
 use Rattle.std.proofs.lemmas.List.{length-take, take-append-drop}
 use Rattle.std.proofs.lemmas.List.Elements.{All-weaker, All-append}
@@ -9,29 +9,9 @@ use Rattle.table_model.specs.Log.{Commit}
 use Rattle.table_model.specs.World.{WorldData, stands, log_of}
 use Rattle.table_model.specs.Knowledge.{Knowledge, StartsWith}
 use Rattle.table_model.specs.Holding.{HoldsIn, IsKeptIn}
-use Rattle.table_model.specs.Sharing.{split_known, both_known}
+use Rattle.table_model.specs.Sharing.{both_known}
 use Rattle.table_model.specs.Noted.{known_with}
 use Rattle.table_model.proofs.Worlds.{below_or_above}
-
-holds-split : (w : WorldData) (k : Knowledge) → HoldsIn w k → HoldsIn w (split_known k)
-holds-split w k h = record {
-  terms = h.terms;
-  seen = h.seen;
-  mine = λ n d less. absurd (omega arith);
-  told = h.told;
-  reported = h.reported;
-  within = h.within;
-  published = h.published;
-  kept = h.kept;
-  marks = h.marks;
-  marked = h.marked;
-  faults = omega arith;
-}
-
-pub split_holds : (w : WorldData) (seen : ℕ) (k past : Knowledge) → past ≡ k → HoldsIn w (known_with k seen w) → HoldsIn w (known_with (split_known past) seen w)
-split_holds w seen k past e h =
-    let P : Knowledge → Type 0 = λ j. HoldsIn w (known_with (split_known j) seen w) in
-    subst P (sym e) (holds-split w (known_with k seen w) h)
 
 front : (n : ℕ) (log : List Commit) → StartsWith log (take n log)
 front n log = record { rest = drop n log; is = sym (take-append-drop n log) }
@@ -69,9 +49,10 @@ holds-both w s t k m h g = record {
   faults = h.faults;
 }
 
-pub both_holds : (w : WorldData) (s t : ℕ) (k m past other : Knowledge) → past ≡ k → other ≡ m → HoldsIn w (known_with k s w) → HoldsIn w (known_with m t w)
-    → HoldsIn w (known_with (both_known past other) (max s t) w)
-both_holds w s t k m past other e f h g =
-    let P : Knowledge → Type 0 = λ j. HoldsIn w (known_with (both_known j other) (max s t) w) in
-    let Q : Knowledge → Type 0 = λ j. HoldsIn w (known_with (both_known k j) (max s t) w) in
-    subst P (sym e) (subst Q (sym f) (holds-both w s t k m h g))
+pub both_holds : (w : WorldData) (s t n : ℕ) (k m past other : Knowledge) → n ≡ max s t → past ≡ k → other ≡ m → HoldsIn w (known_with k s w) → HoldsIn w (known_with m t w)
+    → HoldsIn w (known_with (both_known past other) n w)
+both_holds w s t n k m past other longest e f h g =
+    let P : Knowledge → Type 0 = λ j. HoldsIn w (known_with (both_known j other) n w) in
+    let Q : Knowledge → Type 0 = λ j. HoldsIn w (known_with (both_known k j) n w) in
+    let R : ℕ → Type 0 = λ j. HoldsIn w (known_with (both_known k m) j w) in
+    subst P (sym e) (subst Q (sym f) (subst R (sym longest) (holds-both w s t k m h g)))
