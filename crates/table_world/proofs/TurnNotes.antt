@@ -1,23 +1,22 @@
 -- What the one caller of a world knows after a turn.
-use Rattle.std.proofs.Common.{◌≡◌, ◌<◌, ◌≤◌, ◌+◌, ◌⊎◌, inl, inr, ℕ, Bool, true, false, cond, List, [], ◌∷◌, ◌++◌, length, take, refl, sym, ◌∙◌, ap, subst, arith, rules, Option, Some, None, IsTrue, length-append, max}
-use Rattle.std.specs.Prelude.{Result, Ok, Err, ℤ, nat_lt, ◌==◌, ◌&&◌}
+use Rattle.std.proofs.Common.{◌≡◌, ◌<◌, ◌≤◌, ◌+◌, inl, inr, ℕ, Bool, true, false, List, [], ◌∷◌, ◌++◌, length, take, refl, sym, ◌∙◌, ap, subst, arith, Some, IsTrue, max}
+use Rattle.std.specs.Prelude.{Result, Ok, Err, ℤ, ◌==◌, ◌&&◌}
 use Rattle.std.proofs.lemmas.List.{take-append-le, take_all, length-take}
 use Rattle.log_names.specs.declared.LogName.{LogName}
 use Rattle.log_names.specs.declared.LogName.TheVariants as name
 use Rattle.commit_catalog.specs.declared.Ratify.{Ratify}
 use Rattle.commit_catalog.specs.declared.Ratify.TheVariants as ratify
-use Rattle.table_model.specs.declared.known.Refusal.{Refusal}
 use Rattle.table_model.specs.declared.known.Refusal.TheVariants as refusal
 use Rattle.object_store.specs.declared.store.Bytes.{Bytes}
 use Rattle.object_store.specs.declared.store.Bytes.TheVariants as bytes
 use Rattle.table_model.specs.World.{WorldData, log_of}
 use Rattle.table_model.specs.Log.{Commit, commit_at}
 use Rattle.table_model.specs.Consistency.{IsConsistent}
-use Rattle.table_model.specs.Knowledge.{Knowledge, Terms, StartsWith, IsGrown, IsValid, newcomer, at_start}
+use Rattle.table_model.specs.Knowledge.{Knowledge, Terms, IsGrown, IsValid, newcomer, at_start}
 use Rattle.table_model.specs.Holding.{HoldsIn, IsLater, terms_of}
 use Rattle.table_model.specs.Outcome.{Outcome}
 use Rattle.std.proofs.Common.{◌^◌}
-use Rattle.std.specs.Prelude.{Vec, IfErr, MatchResult, is_ok}
+use Rattle.std.specs.Prelude.{Vec}
 use Rattle.std.proofs.lemmas.List.{get_or-take}
 use Rattle.std.proofs.lemmas.Bool.{lt-ltb, eq-eqb}
 use Rattle.std.proofs.lemmas.Bool.Decides.{eqb_tells}
@@ -35,10 +34,10 @@ use Rattle.table_model.specs.declared.answers.StepFault.{StepFault}
 use Rattle.table_model.specs.declared.answers.StepFault.TheVariants.{Fault, Memory}
 use Rattle.table_model.specs.declared.answers.Staged.{Staged}
 use Rattle.table_model.specs.declared.answers.Staged.TheVariants as staged
-use Rattle.table_model.specs.Turns.{CommitsTurn, ListTurn, GetTurn, StageTurn, RatifyTurn, PublishTurn, ReportTurn, ClearTurn, found_of}
+use Rattle.table_model.specs.Turns.{CommitsTurn, ListTurn, GetTurn, StageTurn, RatifyTurn, PublishTurn, ReportTurn, ClearTurn}
 use Rattle.table_model.specs.Conditions.{MayRatify, MayPublish, MayReport, MayClear}
-use Rattle.table_model.specs.Learning.{LearnsCommits, LearnsList, LearnsGet, LearnsStage, LearnsRatify, LearnsPublish, LearnsReport, LearnsClear, fault_noted}
-use Rattle.table_model.specs.Learned.{commits_learned, stage_learned, publish_learned, report_learned, clear_learned, fault_learned}
+use Rattle.table_model.specs.Learning.{LearnsCommits, LearnsList, LearnsGet, LearnsStage, LearnsRatify, LearnsPublish, LearnsReport, LearnsClear}
+use Rattle.table_model.specs.Learned.{commits_learned, stage_learned, publish_learned, report_learned, clear_learned}
 use Rattle.table_model.proofs.Outcomes.{outcome-refused}
 use Rattle.table_model.proofs.Asking.{outcome-commits, learns-commits}
 use Rattle.table_model.proofs.Reading.{outcome-list, learns-list, outcome-get, learns-get}
@@ -46,13 +45,13 @@ use Rattle.table_model.proofs.Ratifying.{outcome-ratify, learns-ratify}
 use Rattle.table_model.proofs.Calls.{outcome-stage, learns-stage, outcome-publish, learns-publish, outcome-report, learns-report, outcome-clear, learns-clear}
 use Rattle.table_world.specs.Done.{IsKnownIn, HasDone}
 use Rattle.table_model.specs.Learning.{kept_after}
-use Rattle.table_model.specs.Learned.{published_by, published_where_gone, get_learned, list_learned, ratify_learned}
-use Rattle.table_model.proofs.Worlds.{later_refl, later_trans, below_or_above, holds-at_start}
+use Rattle.table_model.specs.Learned.{published_where_gone, get_learned, list_learned, ratify_learned}
+use Rattle.table_model.proofs.Worlds.{later_refl, holds-at_start}
 use Rattle.table_model.proofs.Knowing.{length-log_of, valid_of}
 use Rattle.table_model.specs.declared.notes.Notes.{Notes}
 use Rattle.table_model.specs.Noted.{noted, known_with, known_of}
 use Rattle.table_model.specs.Noting.{commits_noted, report_noted, is_seen_name, published_gone, get_noted, ratify_noted, tried}
-use Rattle.table_model.specs.Alone.{Alone, HasAll, HasPutAll, IsAfter}
+use Rattle.table_model.specs.Alone.{Alone, HasPutAll, IsAfter}
 use Rattle.table_model.proofs.Putting.{puts-commits, puts-list, puts-get, puts-stage, puts-ratify, puts-publish, puts-report, puts-clear}
 use Rattle.table_model.proofs.Lasting.{after_outcome}
 

@@ -2,7 +2,7 @@
 use Rattle.std.specs.Prelude.{◌≤◌, length}
 use Rattle.table_model.specs.World.{WorldData}
 use Rattle.table_model.specs.Consistency.{IsConsistent}
-use Rattle.table_model.specs.Knowledge.{Knowledge, IsGrown, IsValid}
+use Rattle.table_model.specs.Knowledge.{IsGrown, IsValid}
 use Rattle.table_model.specs.Holding.{HoldsIn}
 use Rattle.table_model.specs.Alone.{IsAfter}
 use Rattle.table_model.specs.declared.notes.Notes.{Notes}
