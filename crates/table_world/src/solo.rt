@@ -43,7 +43,7 @@ impl<S: Store> Model for Solo<S> {
 
 impl<S: Store> Solo<S> {
     /// A caller who knows nothing yet of the world.
-    pub fn new(_alloc: Global, world: World<S>) -> Solo<S>
+    pub fn new(world: World<S>) -> Solo<S>
         ensures world { result.world ≡ world }
         ensures nothing { result.known ≡ at_start (terms_of world) }
     {
