@@ -84,7 +84,7 @@ fn hold<S: Store, I: Source, O: Sink, C: Clock, U: Ids>(
     ensures read { IsCaused (status_in result ≡ status.ReadFault) (I.faults source.old) (I.faults source.new) }
     ensures write { IsCaused (status_in result ≡ status.WriteFault) (O.faults sink.old) (O.faults sink.new) }
 {
-    let mut solo = Solo::new(alloc, world);
+    let mut solo = Solo::new(world);
     let end = session(&mut solo, alloc, source, sink, clock, ids);
     let status = settle(&mut solo, alloc, end);
     Ended::Ran {

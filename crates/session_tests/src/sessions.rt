@@ -55,7 +55,7 @@ fn held(
 ) -> (End, MemSink, World<MemStore>)
     requires { world.limits.versions ≤ world.limits.unpublished }
 {
-    let mut caller = Meddler::new(alloc, world, others);
+    let mut caller = Meddler::new(world, others);
     let mut source = MemSource::new(input, 64, Vec::new(alloc));
     let mut sink = MemSink::new(alloc, Vec::new(alloc));
     let mut clock = FixedClock::new(1000);

@@ -12,8 +12,8 @@ use Rattle.table_model.specs.Conditions.{MayRatify, MayPublish}
 use Rattle.table_model.proofs.Growing.{le_trans, grows_refl}
 use Rattle.table_model.proofs.Worlds.{later_trans, holds_later}
 use Rattle.table_model.proofs.Knowing.{valid_of}
-use Rattle.table_world.specs.declared.notes.Notes.{Notes}
-use Rattle.table_world.specs.Noted.{noted, known_of}
+use Rattle.table_model.specs.declared.notes.Notes.{Notes}
+use Rattle.table_model.specs.Noted.{noted, known_of}
 use Rattle.table_world.specs.Done.{IsKnownIn, HasDone}
 use Rattle.table_world.proofs.TurnNotes.{known_moved}
 use Rattle.table_meddler.specs.declared.foreign.Foreign.{Foreign}

@@ -6,8 +6,8 @@ use Rattle.table_model.specs.World.{WorldData}
 use Rattle.table_model.specs.Consistency.{IsConsistent}
 use Rattle.table_model.specs.Knowledge.{Knowledge, IsGrown, IsValid}
 use Rattle.table_model.specs.Holding.{IsLater}
-use Rattle.table_world.specs.declared.notes.Notes.{Notes}
-use Rattle.table_world.specs.Noted.{known_of}
+use Rattle.table_model.specs.declared.notes.Notes.{Notes}
+use Rattle.table_model.specs.Noted.{known_of}
 use Rattle.table_world.specs.Done.{IsKnownIn}
 use Rattle.table_meddler.specs.declared.foreign.Foreign.{Foreign}
 use Rattle.table_meddler.specs.Others.{AreMade, AreCutShort}

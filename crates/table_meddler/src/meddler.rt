@@ -17,12 +17,12 @@ use log_names::LogName;
 use object_store::{Bytes, Gone, Put, Store};
 use std::alloc::Global;
 use std::marker::Model;
-use table_model::{Staged, StepFault, Steps};
-use table_world::{Notes, World};
+use table_model::{Notes, Staged, StepFault, Steps};
+use table_world::World;
 
 /// One caller of a world in which others act between its turns: theirs are those of a list, each made before the
 /// caller's turn of its number and passed over where its condition does not hold. Where memory is short at one of them,
-/// the caller's turn is refused for want of it. The caller keeps what it knows beside the world. What the others' turns
+/// the caller's turn is refused for want of it. What the caller knows stands beside the world. What the others' turns
 /// cost the store is counted there, and not among the caller's faults.
 pub struct Meddler<S: Store> {
     world: World<S>,
@@ -35,7 +35,7 @@ impl<S: Store> Model for Meddler<S> {
     ghost use Rattle.std.specs.Prelude.{◌≡◌};
     ghost use Rattle.std.specs.Coded.{codes};
     ghost use Rattle.object_store.specs.Files.{files_code};
-    ghost use Rattle.table_world.specs.Noted.{known_of};
+    ghost use Rattle.table_model.specs.Noted.{known_of};
     ghost use Rattle.table_world.specs.Done.{IsKnownIn};
     ghost use Rattle.table_meddler.specs.Among.{Among};
 
@@ -50,8 +50,8 @@ impl<S: Store> Model for Meddler<S> {
 
 impl<S: Store> Meddler<S> {
     /// A caller who knows nothing yet of the world and has made no turn, with the turns of the others in the order in
-    /// which those before one turn are made. It takes no memory.
-    pub fn new(alloc: Global, world: World<S>, turns: Vec<Foreign>) -> Meddler<S>
+    /// which those before one turn are made.
+    pub fn new(world: World<S>, turns: Vec<Foreign>) -> Meddler<S>
         ensures world { result.world ≡ world }
         ensures nothing { result.known ≡ at_start (terms_of world) }
         ensures others { result.others ≡ turns.items }
@@ -60,7 +60,7 @@ impl<S: Store> Meddler<S> {
         let _count = world.count();
         Meddler {
             world,
-            notes: Notes::new(alloc),
+            notes: Notes::new(),
             others: turns,
             turns: 0,
         }

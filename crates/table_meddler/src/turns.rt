@@ -5,7 +5,7 @@ ghost use Rattle.log_names.specs.Texts.{name_text};
 ghost use Rattle.table_model.specs.Turns.{CommitsTurn, ListTurn, GetTurn, StageTurn, RatifyTurn, PublishTurn, ReportTurn, ClearTurn};
 ghost use Rattle.table_model.specs.Conditions.{MayRatify, MayPublish, MayReport, MayClear};
 ghost use Rattle.table_model.specs.Learning.{LearnsCommits, LearnsList, LearnsGet, LearnsStage, LearnsRatify, LearnsPublish, LearnsReport, LearnsClear};
-ghost use Rattle.table_world.specs.Noted.{known_of};
+ghost use Rattle.table_model.specs.Noted.{known_of};
 ghost use Rattle.table_world.specs.Done.{IsKnownIn};
 ghost use Rattle.table_meddler.specs.Among.{HasDoneAmong, IsMet};
 
@@ -15,8 +15,8 @@ use commit_catalog::{Commits, Ratify};
 use log_names::LogName;
 use object_store::{Bytes, Gone, Put, Store};
 use std::alloc::Global;
-use table_model::{Staged, StepFault};
-use table_world::{Notes, World, turns};
+use table_model::{Notes, Staged, StepFault};
+use table_world::{World, turns};
 
 /// The catalogue now.
 pub(crate) fn commits<S: Store>(

@@ -13,3 +13,4 @@ pub mod Ratifying
 pub mod Calls
 pub mod Lasting
 pub mod Putting
+pub mod Sharing

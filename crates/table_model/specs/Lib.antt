@@ -8,6 +8,9 @@ pub mod Holding
 pub mod Conditions
 pub mod Learning
 pub mod Learned
+pub mod Noting
+pub mod Sharing
+pub mod Noted
 pub mod Outcome
 pub mod Alone
 pub use Rattle.log_names.specs.Texts

@@ -140,7 +140,7 @@ fn turns_of(alloc: Global, rows: &[(u64, Act)]) -> Result<Vec<Foreign>, AllocErr
 
 fn among(alloc: Global, turns: Vec<Foreign>, fails: Vec<Fail>) -> Option<Meddler<MemStore>> {
     match World::start(alloc, MemStore::new(alloc, fails), LIMITS) {
-        Ok(world) => Some(Meddler::new(alloc, world, turns)),
+        Ok(world) => Some(Meddler::new(world, turns)),
         Err(_) => None,
     }
 }

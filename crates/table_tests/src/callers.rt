@@ -68,7 +68,7 @@ fn loads(
 fn caller(alloc: Global) -> Option<Solo<Untold>> {
     let store = Untold(MemStore::new(alloc, Vec::new(alloc)));
     let world = World::start(alloc, store, LIMITS).ok()?;
-    Some(Solo::new(alloc, world))
+    Some(Solo::new(world))
 }
 
 #[test]

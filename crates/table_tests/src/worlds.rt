@@ -114,7 +114,7 @@ fn answers_of_the_one_caller(rt: HostRuntime) -> Result<(), Stop> {
     let alloc = rt.alloc();
     let store = Untold(MemStore::new(alloc, Vec::new(alloc)));
     let world = World::start(alloc, store, LIMITS).ok().ok_or("a world")?;
-    let mut solo = Solo::new(alloc, world);
+    let mut solo = Solo::new(world);
     let limits = solo.limits();
     let answers = turns(&mut solo, alloc);
     let (catalog, _store) = solo.into_world().close();

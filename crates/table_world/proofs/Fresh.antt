@@ -1,6 +1,5 @@
 -- A folder without names of the log makes a consistent world.
-use Rattle.std.proofs.Common.{◌≡◌, ◌≢◌, ◌<◌, ◌≤◌, inl, inr, ℕ, Bool, true, false, cond, List, [], ◌∷◌, length, refl, sym, ◌∙◌, ap, subst, arith, rules, Option, Some, None, IsTrue}
-use Rattle.std.specs.Prelude.{find, is_some}
+use Rattle.std.proofs.Common.{◌≡◌, ◌≢◌, ◌≤◌, inl, inr, ℕ, Bool, true, false, cond, List, [], ◌∷◌, length, refl, sym, ◌∙◌, ap, arith, Some, None, IsTrue}
 use Rattle.log_names.specs.declared.LogName.{LogName}
 use Rattle.log_names.specs.declared.LogName.TheVariants as name
 use Rattle.log_names.specs.Texts.{name_text, published_text, staged_text, checkpoint_text}
@@ -14,10 +13,10 @@ use Rattle.table_model.specs.Log.{IsSound}
 use Rattle.table_model.specs.Knowledge.{at_start}
 use Rattle.table_model.specs.Holding.{terms_of}
 use Rattle.table_model.specs.Alone.{HasPutAll}
-use Rattle.table_model.specs.Consistency.{IsSized, IsFiled, IsConsistent}
-use Rattle.table_model.specs.Turns.{is_log_name, listing}
+use Rattle.table_model.specs.Consistency.{IsFiled, IsConsistent}
+use Rattle.table_model.specs.Turns.{is_log_name}
 use Rattle.table_model.proofs.Sound.{sound-nil}
-use Rattle.table_model.proofs.Listing.{In, in-Contains, stands-listing, listed_text}
+use Rattle.table_model.proofs.Listing.{In, listed_text}
 use Rattle.table_world.specs.Worlds.{world_of, fresh_world, first_log_name}
 use Rattle.commit_catalog.specs.Records.{CatalogData}
 use Rattle.log_names.proofs.Names.{name_of-meaning, form_short}

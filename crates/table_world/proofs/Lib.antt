@@ -2,4 +2,3 @@ pub mod StoreTurns
 pub mod Kept
 pub mod Fresh
 pub mod TurnNotes
-pub mod Marks

@@ -1,5 +1,5 @@
 -- What the store did, as a turn of the world.
-use Rattle.std.proofs.Common.{◌≡◌, ◌≢◌, ◌<◌, ◌≤◌, ◌-◌, ◌⊎◌, inl, inr, ℕ, Bool, true, false, cond, List, length, refl, sym, ◌∙◌, ap, subst, arith, rules, Option, Some, None, IsTrue, filter, map}
+use Rattle.std.proofs.Common.{◌≡◌, ◌<◌, ◌≤◌, ◌-◌, inl, inr, ℕ, Bool, true, false, cond, List, refl, sym, ◌∙◌, ap, subst, arith, Option, Some, None, IsTrue, filter, map}
 use Rattle.std.specs.Prelude.{is_some, IsSome, Result, Ok, Err, IfSome, Vec, MatchResult}
 use Rattle.std.specs.declared.alloc.Global.{Global}
 use Rattle.log_names.specs.declared.LogName.{LogName}
@@ -17,13 +17,12 @@ use Rattle.object_store.specs.declared.store.Gone.{Gone}
 use Rattle.object_store.specs.declared.store.Gone.TheVariants as gone
 use Rattle.table_model.specs.declared.answers.StepFault.{StepFault}
 use Rattle.table_model.specs.declared.answers.StepFault.TheVariants.{Fault, Memory}
-use Rattle.log_names.specs.Texts.{published_text, staged_text}
-use Rattle.table_model.specs.Files.{fits, file_at, put_at, drop_at, stands_at}
+use Rattle.table_model.specs.Files.{fits, put_at, stands_at}
 use Rattle.table_model.specs.World.{WorldData, stands, told_put, told_drop}
-use Rattle.table_model.specs.Turns.{IsFailed, IsInDoubt, Lists, Finds, StagesNew, FindsStagedName, FailsToStage, PutsNew, FindsThere, Deletes, FindsAbsent, found_of, GetTurn, ListTurn, PublishTurn, ClearTurn, after_put, IsRatifiedUnder, listing, is_log_name}
+use Rattle.table_model.specs.Turns.{IsFailed, IsInDoubt, Lists, Finds, PutsNew, FindsThere, Deletes, FindsAbsent, found_of, GetTurn, ListTurn, PublishTurn, ClearTurn, after_put, is_log_name}
 use Rattle.table_model.proofs.FileLaws.{file_at-text, put_at-text, drop_at-text}
 use Rattle.table_model.proofs.Listing.{fits-name_of, listing-names_of}
-use Rattle.table_world.specs.Worlds.{world_of, IsRecordedUnder}
+use Rattle.table_world.specs.Worlds.{world_of}
 
 -- the world after: the same catalogue, other files and another count
 abbrev after : CatalogData → Files → ℕ → ℕ → Bool → WorldData

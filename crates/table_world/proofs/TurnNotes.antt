@@ -1,23 +1,22 @@
 -- What the one caller of a world knows after a turn.
-use Rattle.std.proofs.Common.{◌≡◌, ◌<◌, ◌≤◌, ◌+◌, ◌⊎◌, inl, inr, ℕ, Bool, true, false, cond, List, [], ◌∷◌, ◌++◌, length, take, refl, sym, ◌∙◌, ap, subst, arith, rules, Option, Some, None, IsTrue, length-append, max}
-use Rattle.std.specs.Prelude.{Result, Ok, Err, ℤ, nat_lt, ◌==◌, ◌&&◌}
+use Rattle.std.proofs.Common.{◌≡◌, ◌<◌, ◌≤◌, ◌+◌, inl, inr, ℕ, Bool, true, false, List, [], ◌∷◌, ◌++◌, length, take, refl, sym, ◌∙◌, ap, subst, arith, Some, IsTrue, max}
+use Rattle.std.specs.Prelude.{Result, Ok, Err, ℤ, ◌==◌, ◌&&◌}
 use Rattle.std.proofs.lemmas.List.{take-append-le, take_all, length-take}
 use Rattle.log_names.specs.declared.LogName.{LogName}
 use Rattle.log_names.specs.declared.LogName.TheVariants as name
 use Rattle.commit_catalog.specs.declared.Ratify.{Ratify}
 use Rattle.commit_catalog.specs.declared.Ratify.TheVariants as ratify
-use Rattle.table_model.specs.declared.known.Refusal.{Refusal}
 use Rattle.table_model.specs.declared.known.Refusal.TheVariants as refusal
 use Rattle.object_store.specs.declared.store.Bytes.{Bytes}
 use Rattle.object_store.specs.declared.store.Bytes.TheVariants as bytes
 use Rattle.table_model.specs.World.{WorldData, log_of}
 use Rattle.table_model.specs.Log.{Commit, commit_at}
 use Rattle.table_model.specs.Consistency.{IsConsistent}
-use Rattle.table_model.specs.Knowledge.{Knowledge, Terms, StartsWith, IsGrown, IsValid, newcomer, at_start}
+use Rattle.table_model.specs.Knowledge.{Knowledge, Terms, IsGrown, IsValid, newcomer, at_start}
 use Rattle.table_model.specs.Holding.{HoldsIn, IsLater, terms_of}
 use Rattle.table_model.specs.Outcome.{Outcome}
 use Rattle.std.proofs.Common.{◌^◌}
-use Rattle.std.specs.Prelude.{Vec, IfErr, MatchResult, is_ok}
+use Rattle.std.specs.Prelude.{Vec}
 use Rattle.std.proofs.lemmas.List.{get_or-take}
 use Rattle.std.proofs.lemmas.Bool.{lt-ltb, eq-eqb}
 use Rattle.std.proofs.lemmas.Bool.Decides.{eqb_tells}
@@ -35,10 +34,10 @@ use Rattle.table_model.specs.declared.answers.StepFault.{StepFault}
 use Rattle.table_model.specs.declared.answers.StepFault.TheVariants.{Fault, Memory}
 use Rattle.table_model.specs.declared.answers.Staged.{Staged}
 use Rattle.table_model.specs.declared.answers.Staged.TheVariants as staged
-use Rattle.table_model.specs.Turns.{CommitsTurn, ListTurn, GetTurn, StageTurn, RatifyTurn, PublishTurn, ReportTurn, ClearTurn, found_of}
+use Rattle.table_model.specs.Turns.{CommitsTurn, ListTurn, GetTurn, StageTurn, RatifyTurn, PublishTurn, ReportTurn, ClearTurn}
 use Rattle.table_model.specs.Conditions.{MayRatify, MayPublish, MayReport, MayClear}
-use Rattle.table_model.specs.Learning.{LearnsCommits, LearnsList, LearnsGet, LearnsStage, LearnsRatify, LearnsPublish, LearnsReport, LearnsClear, fault_noted}
-use Rattle.table_model.specs.Learned.{commits_learned, stage_learned, publish_learned, report_learned, clear_learned, fault_learned}
+use Rattle.table_model.specs.Learning.{LearnsCommits, LearnsList, LearnsGet, LearnsStage, LearnsRatify, LearnsPublish, LearnsReport, LearnsClear}
+use Rattle.table_model.specs.Learned.{commits_learned, stage_learned, publish_learned, report_learned, clear_learned}
 use Rattle.table_model.proofs.Outcomes.{outcome-refused}
 use Rattle.table_model.proofs.Asking.{outcome-commits, learns-commits}
 use Rattle.table_model.proofs.Reading.{outcome-list, learns-list, outcome-get, learns-get}
@@ -46,13 +45,13 @@ use Rattle.table_model.proofs.Ratifying.{outcome-ratify, learns-ratify}
 use Rattle.table_model.proofs.Calls.{outcome-stage, learns-stage, outcome-publish, learns-publish, outcome-report, learns-report, outcome-clear, learns-clear}
 use Rattle.table_world.specs.Done.{IsKnownIn, HasDone}
 use Rattle.table_model.specs.Learning.{kept_after}
-use Rattle.table_model.specs.Learned.{published_by, published_where_gone, get_learned, list_learned, ratify_learned}
-use Rattle.table_model.proofs.Worlds.{later_refl, later_trans, below_or_above, holds-at_start}
+use Rattle.table_model.specs.Learned.{published_where_gone, get_learned, list_learned, ratify_learned}
+use Rattle.table_model.proofs.Worlds.{later_refl, holds-at_start}
 use Rattle.table_model.proofs.Knowing.{length-log_of, valid_of}
-use Rattle.table_world.specs.declared.notes.Notes.{Notes}
-use Rattle.table_world.specs.Noted.{noted, known_with, known_of}
-use Rattle.table_world.specs.Noting.{answer_noted, is_seen_name, published_gone, get_noted, list_noted, ratify_noted, tried}
-use Rattle.table_model.specs.Alone.{Alone, HasAll, HasPutAll, IsAfter}
+use Rattle.table_model.specs.declared.notes.Notes.{Notes}
+use Rattle.table_model.specs.Noted.{noted, known_with, known_of}
+use Rattle.table_model.specs.Noting.{commits_noted, report_noted, is_seen_name, published_gone, get_noted, ratify_noted, tried}
+use Rattle.table_model.specs.Alone.{Alone, HasPutAll, IsAfter}
 use Rattle.table_model.proofs.Putting.{puts-commits, puts-list, puts-get, puts-stage, puts-ratify, puts-publish, puts-report, puts-clear}
 use Rattle.table_model.proofs.Lasting.{after_outcome}
 
@@ -126,7 +125,7 @@ kept_with (name.Parquet version) b k seen w p g = refl
 kept_with name.Other b k seen w p g = refl
 
 pub get_noted_learned : (n : LogName) (b : Bytes) (is : Bool) (k : Knowledge) (seen : ℕ) (w : WorldData) → is ≡ is_seen_name n (take seen (log_of w))
-    → known_with (get_noted n b is k) seen w ≡ get_learned n (known_with k seen w) (Ok b)
+    → known_with (get_noted n is k (Ok b)) seen w ≡ get_learned n (known_with k seen w) (Ok b)
 get_noted_learned n (bytes.Whole b) is k seen w e = kept_with n b.items k seen w _ _
 get_noted_learned n bytes.Absent is k seen w e =
     ap (λ (p : ℕ). let m : Knowledge = record k { terms = Some (terms_of w); seen = take seen (log_of w); published = p; absents = k.absents ++ n ∷ []; gets = k.gets + 1 } in m)
@@ -179,7 +178,7 @@ moved_learns : (P : Knowledge → Type 0) (now k : Knowledge) → now ≡ k → 
 moved_learns P now k e h = subst P (sym e) h
 
 pub commits_done : (w x : WorldData) (n m : Notes) (c : Commits) → IsKnownIn w n → CommitsTurn w (Ok c) x
-    → noted m ≡ record (noted n) { published = max (noted n).published c.reported; reported = c.reported; heard = (noted n).heard ++ c.reported ∷ []; asks = (noted n).asks + 1 }
+    → noted m ≡ commits_noted c.reported (noted n)
     → m.seen ≡ c.count
     → HasDone (CommitsTurn w (Ok c) x) (LearnsCommits w.tells (known_of w n) (Ok c) (known_of x m)) w n x m
 commits_done w x n m c h t e f =
@@ -202,13 +201,13 @@ list_done w x n m r h t e f =
     has_done _ _ w x n m _ t (moved_learns (LearnsList w.tells (known_of w n) r) _ _ is (learns-list w x (known_of w n) r h.consistent h.holds t)) o (λ tells p. puts-list w x (known_of w n) r t p) is (seen_later w x n m h o.later f)
 
 get_moved : (name : LogName) (k : Knowledge) (seen : ℕ) (w : WorldData) (r : Result Bytes StepFault) (is : Bool) → is ≡ is_seen_name name (take seen (log_of w))
-    → known_with (answer_noted name r is k) seen w ≡ get_learned name (known_with k seen w) r
+    → known_with (get_noted name is k r) seen w ≡ get_learned name (known_with k seen w) r
 get_moved n k seen w (Ok b) is e = get_noted_learned n b is k seen w e
 get_moved n k seen w (Err Memory) is e = refl
 get_moved n k seen w (Err (Fault at)) is e = refl
 
 pub get_done : (name : LogName) (w x : WorldData) (n m : Notes) (r : Result Bytes StepFault) (is : Bool) → IsKnownIn w n → GetTurn name w r x
-    → is ≡ is_seen_name name (take n.seen (log_of w)) → noted m ≡ answer_noted name r is (noted n) → m.seen ≡ n.seen
+    → is ≡ is_seen_name name (take n.seen (log_of w)) → noted m ≡ get_noted name is (noted n) r → m.seen ≡ n.seen
     → HasDone (GetTurn name w r x) (LearnsGet w.tells name (known_of w n) r (known_of x m)) w n x m
 get_done name w x n m r is h t test e f =
     let o = outcome-get name w x (known_of w n) r h.consistent h.holds t in
@@ -253,7 +252,7 @@ publish_done version text w x n m r h small may t e f =
     has_done _ _ w x n m _ t (moved_learns (LearnsPublish version (known_of w n) r) _ _ is (learns-publish version text w x (known_of w n) r t)) o (λ tells p. puts-publish version text w x (known_of w n) r tells small t p) is (seen_later w x n m h o.later f)
 
 pub report_done : (count : ℕ) (w x : WorldData) (n m : Notes) (answer : ℕ) → IsKnownIn w n → MayReport (known_of w n) count
-    → ReportTurn count w (Ok answer) x → noted m ≡ record (noted n) { published = max (noted n).published answer; reported = answer } → m.seen ≡ n.seen
+    → ReportTurn count w (Ok answer) x → noted m ≡ report_noted answer (noted n) → m.seen ≡ n.seen
     → HasDone (ReportTurn count w (Ok answer) x) (LearnsReport count (known_of w n) (Ok answer) (known_of x m)) w n x m
 report_done count w x n m answer h may t e f =
     let o = outcome-report count w x (known_of w n) (Ok answer) h.consistent h.holds may t in
@@ -285,16 +284,6 @@ pub refused_by : (w x : WorldData) (n m : Notes) (fault : StepFault) → IsKnown
 refused_by w x n m Memory h t e f = refused_same w x n m h t e f
 refused_by w x n m (Fault at) h t e f = absurd t
 
-pub list_same : (w x : WorldData) (r : Result (Vec LogName Global) StepFault) → IsTrue (is_ok r) → ListTurn w r x → x ≡ w
-list_same w x (Ok names) h t = t.same
-list_same w x (Err Memory) h t = t
-list_same w x (Err (Fault at)) h t = cc
-
-pub get_same : (name : LogName) (w x : WorldData) (r : Result Bytes StepFault) → IsTrue (is_ok r) → GetTurn name w r x → x ≡ w
-get_same name w x (Ok b) h t = t.same
-get_same name w x (Err Memory) h t = t
-get_same name w x (Err (Fault at)) h t = cc
-
 -- whether a version is recorded under an id, as the seen log says it
 decided : (b : Bool) (id other : ℕ) (P : Type 0) → (IsTrue b → P × (other ≡ id)) → (P × (other ≡ id) → IsTrue b) → P → b ≡ (id == other)
 decided true id other P there back p = sym (eq-eqb id other (sym (there refl).1))
@@ -315,21 +304,6 @@ seen_test w seen version id b le less there back =
     decided b id (entry_at w.records version).id (version < length w.records) there back far
     ∙ ap (λ (n : ℕ). id == n) (sym same)
     ∙ sym (ap (λ (t : Bool). t && (id == (commit_at (take seen (log_of w)) version).id)) (lt-ltb version (length (take seen (log_of w))) long))
-
--- the same notes, from an equal beginning
-
-pub ratify_noted_as : (version s t : ℕ) (a : Ratify) (k l m : Knowledge) → m ≡ ratify_noted version s a k → s ≡ t → k ≡ l → m ≡ ratify_noted version t a l
-ratify_noted_as version s t a k l m e f h =
-    let P : ℕ → Type 0 = λ n. m ≡ ratify_noted version n a l in
-    let Q : Knowledge → Type 0 = λ n. m ≡ ratify_noted version s a n in
-    subst P f (subst Q h e)
-
-pub stage_learned_as : (version id : ℕ) (xs ys : List ℕ) (k l m : Knowledge) (r : Result Staged StepFault) → m ≡ stage_learned version id xs k r → xs ≡ ys → k ≡ l
-    → m ≡ stage_learned version id ys l r
-stage_learned_as version id xs ys k l m r e f h =
-    let P : List ℕ → Type 0 = λ n. m ≡ stage_learned version id n l r in
-    let Q : Knowledge → Type 0 = λ n. m ≡ stage_learned version id xs n r in
-    subst P f (subst Q h e)
 
 -- who has noted nothing
 

@@ -2,11 +2,11 @@
 use Rattle.std.specs.Prelude.{◌≤◌, length}
 use Rattle.table_model.specs.World.{WorldData}
 use Rattle.table_model.specs.Consistency.{IsConsistent}
-use Rattle.table_model.specs.Knowledge.{Knowledge, IsGrown, IsValid}
+use Rattle.table_model.specs.Knowledge.{IsGrown, IsValid}
 use Rattle.table_model.specs.Holding.{HoldsIn}
 use Rattle.table_model.specs.Alone.{IsAfter}
-use Rattle.table_world.specs.declared.notes.Notes.{Notes}
-use Rattle.table_world.specs.Noted.{known_of}
+use Rattle.table_model.specs.declared.notes.Notes.{Notes}
+use Rattle.table_model.specs.Noted.{known_of}
 
 -- the notes are true of the world
 pub record IsKnownIn (w : WorldData) (n : Notes) : Type 0 where

@@ -1,5 +1,5 @@
 -- How a world starts.
-use Rattle.std.specs.Prelude.{◌≡◌, ◌<◌, ℕ, Bool, IsTrue, List, Option, None, Some}
+use Rattle.std.specs.Prelude.{◌≡◌, ◌<◌, ℕ, Bool, IsTrue, List, None, Some}
 use Rattle.commit_catalog.specs.declared.Limits.{Limits}
 use Rattle.object_store.specs.Files.{Files, names_of}
 use Rattle.table_model.specs.World.{WorldData}

@@ -1,11 +1,10 @@
 -- The catalogue and the store of a world, as its plain data.
-use Rattle.std.specs.Prelude.{◌≡◌, ◌<◌, ◌≤◌, ◌-◌, ◌≢◌, ◌⊎◌, ℕ, Bool, IsTrue, List, [], length, find, Option, Some, None, Result, Ok, Err}
-use Rattle.commit_catalog.specs.Records.{CatalogData, IsWithinLimits}
+use Rattle.std.specs.Prelude.{◌≡◌, ◌<◌, ◌-◌, ℕ, Bool, List, [], length, find, Option}
+use Rattle.commit_catalog.specs.Records.{CatalogData}
 use Rattle.commit_catalog.specs.declared.Limits.{Limits}
 use Rattle.commit_catalog.specs.declared.Entry.{Entry}
-use Rattle.log_names.specs.declared.LogName.{LogName}
 use Rattle.log_names.specs.Reading.{name_of}
-use Rattle.object_store.specs.Files.{Files, names_of}
+use Rattle.object_store.specs.Files.{Files}
 use Rattle.table_model.specs.World.{WorldData, entry_at}
 use Rattle.table_model.specs.Turns.{is_log_name}
 

@@ -9,7 +9,6 @@ ghost use Rattle.table_model.specs.Conditions.{MayRatify, MayPublish, MayReport,
 ghost use Rattle.table_model.specs.Alone.{IsAfter};
 ghost use Rattle.table_model.proofs.Lasting.{after_refl, after_trans};
 
-use crate::notes::Notes;
 use crate::turns;
 use crate::world::World;
 use commit_catalog::{Commits, Limits, Ratify};
@@ -17,9 +16,9 @@ use log_names::LogName;
 use object_store::{Bytes, Gone, Put, Store};
 use std::alloc::Global;
 use std::marker::Model;
-use table_model::{Staged, StepFault, Steps};
+use table_model::{Notes, Staged, StepFault, Steps};
 
-/// The one caller of a world. It keeps what it knows beside the world.
+/// The one caller of a world. What it knows stands beside the world, for contracts alone.
 pub struct Solo<S: Store> {
     world: World<S>,
     notes: Notes,
@@ -30,7 +29,7 @@ impl<S: Store> Model for Solo<S> {
     ghost use Rattle.std.specs.Coded.{codes};
     ghost use Rattle.object_store.specs.Files.{files_code};
     ghost use Rattle.table_model.specs.Alone.{Alone};
-    ghost use Rattle.table_world.specs.Noted.{known_of};
+    ghost use Rattle.table_model.specs.Noted.{known_of};
     ghost use Rattle.table_world.specs.Done.{IsKnownIn};
 
     ghost Value = { Alone };
@@ -43,15 +42,15 @@ impl<S: Store> Model for Solo<S> {
 }
 
 impl<S: Store> Solo<S> {
-    /// A caller who knows nothing yet of the world. It takes no memory.
-    pub fn new(alloc: Global, world: World<S>) -> Solo<S>
+    /// A caller who knows nothing yet of the world.
+    pub fn new(world: World<S>) -> Solo<S>
         ensures world { result.world ≡ world }
         ensures nothing { result.known ≡ at_start (terms_of world) }
     {
         let _count = world.count();
         Solo {
             world,
-            notes: Notes::new(alloc),
+            notes: Notes::new(),
         }
     }
 

@@ -5,26 +5,21 @@ ghost use Rattle.log_names.specs.Texts.{name_text};
 ghost use Rattle.table_model.specs.Turns.{CommitsTurn, ListTurn, GetTurn, StageTurn, RatifyTurn, PublishTurn, ReportTurn, ClearTurn};
 ghost use Rattle.table_model.specs.Conditions.{MayRatify, MayPublish, MayReport, MayClear};
 ghost use Rattle.table_model.specs.Learning.{LearnsCommits, LearnsList, LearnsGet, LearnsStage, LearnsRatify, LearnsPublish, LearnsReport, LearnsClear};
-ghost use Rattle.table_world.specs.Noted.{known_of};
+ghost use Rattle.table_model.specs.Noted.{known_of};
 ghost use Rattle.table_world.specs.Done.{IsKnownIn, HasDone};
 
-use crate::notes::Notes;
 use crate::world::World;
 use commit_catalog::{Commits, Ratify};
 use log_names::LogName;
 use object_store::{Bytes, Gone, Put, Store};
 use std::alloc::Global;
-use table_model::{Staged, StepFault};
+use table_model::{Notes, Staged, StepFault};
 
 /// The catalogue now.
 pub fn commits<S: Store>(world: &mut World<S>, notes: &mut Notes) -> Result<Commits, StepFault>
     requires known { IsKnownIn world.old notes.old }
     ensures { HasDone (CommitsTurn world.old result world.new) (LearnsCommits world.old.tells (known_of world.old notes.old) result (known_of world.new notes.new)) world.old notes.old world.new notes.new }
 {
-    match notes.reserve() {
-        Ok(()) => {}
-        Err(_) => return Err(StepFault::Memory),
-    }
     let commits = match world.commits() {
         Ok(commits) => commits,
         Err(fault) => return Err(fault),
@@ -42,15 +37,9 @@ pub fn list<S: Store>(
     requires known { IsKnownIn world.old notes.old }
     ensures { HasDone (ListTurn world.old result world.new) (LearnsList world.old.tells (known_of world.old notes.old) result (known_of world.new notes.new)) world.old notes.old world.new notes.new }
 {
-    match notes.reserve() {
-        Ok(()) => {}
-        Err(_) => return Err(StepFault::Memory),
-    }
     let answer = world.list(alloc);
-    match notes.note_list(alloc, &answer) {
-        Ok(()) => answer,
-        Err(_) => Err(StepFault::Memory),
-    }
+    notes.note_list(&answer);
+    answer
 }
 
 /// The file of a name that has a text.
@@ -64,16 +53,10 @@ pub fn get<S: Store>(
     requires text { IsSome (name_text name) }
     ensures { HasDone (GetTurn name world.old result world.new) (LearnsGet world.old.tells name (known_of world.old notes.old) result (known_of world.new notes.new)) world.old notes.old world.new notes.new }
 {
-    match notes.reserve() {
-        Ok(()) => {}
-        Err(_) => return Err(StepFault::Memory),
-    }
     let is_seen = world.is_seen(notes.seen, name);
     let answer = world.get(alloc, name);
-    match notes.note_get(alloc, name, &answer, is_seen) {
-        Ok(()) => answer,
-        Err(_) => Err(StepFault::Memory),
-    }
+    notes.note_get(name, &answer, is_seen);
+    answer
 }
 
 /// Stages a commit of a version under an id.
@@ -88,16 +71,8 @@ pub fn stage<S: Store>(
     requires known { IsKnownIn world.old notes.old }
     ensures { HasDone (StageTurn version id bytes.now world.old result world.new) (LearnsStage version id bytes.now (known_of world.old notes.old) result (known_of world.new notes.new)) world.old notes.old world.new notes.new }
 {
-    match notes.reserve() {
-        Ok(()) => {}
-        Err(_) => return Err(StepFault::Memory),
-    }
-    let copy = match Vec::from_slice(alloc, bytes) {
-        Ok(copy) => copy,
-        Err(_) => return Err(StepFault::Memory),
-    };
     let answer = world.stage(alloc, version, id, bytes);
-    notes.note_stage(version, id, copy, answer);
+    notes.note_stage(version, id, bytes, answer);
     answer
 }
 
@@ -113,10 +88,6 @@ pub fn ratify<S: Store>(
     requires may { MayRatify world.old.tells (known_of world.old notes.old) version id time }
     ensures { HasDone (RatifyTurn version id time world.old result world.new) (LearnsRatify world.old.tells version id (known_of world.old notes.old) result (known_of world.new notes.new)) world.old notes.old world.new notes.new }
 {
-    match notes.reserve() {
-        Ok(()) => {}
-        Err(_) => return Err(StepFault::Memory),
-    }
     let answer = match world.ratify(version, id, time) {
         Ok(answer) => answer,
         Err(fault) => return Err(fault),
@@ -137,13 +108,6 @@ pub fn publish<S: Store>(
     requires may { MayPublish world.old.tells (known_of world.old notes.old) version bytes.now }
     ensures { HasDone (PublishTurn version bytes.now world.old result world.new) (LearnsPublish version (known_of world.old notes.old) result (known_of world.new notes.new)) world.old notes.old world.new notes.new }
 {
-    match notes.reserve() {
-        Ok(()) => {}
-        Err(_) => return Err(StepFault::Memory),
-    }
-    if version == u64::MAX {
-        return Err(StepFault::Memory);
-    }
     let answer = world.publish(alloc, version, bytes);
     notes.note_publish(version, answer);
     answer
@@ -159,10 +123,6 @@ pub fn report<S: Store>(
     requires may { MayReport (known_of world.old notes.old) count }
     ensures { HasDone (ReportTurn count world.old result world.new) (LearnsReport count (known_of world.old notes.old) result (known_of world.new notes.new)) world.old notes.old world.new notes.new }
 {
-    match notes.reserve() {
-        Ok(()) => {}
-        Err(_) => return Err(StepFault::Memory),
-    }
     let answer = match world.report(count) {
         Ok(answer) => answer,
         Err(fault) => return Err(fault),
@@ -183,10 +143,6 @@ pub fn clear<S: Store>(
     requires may { MayClear (known_of world.old notes.old) version }
     ensures { HasDone (ClearTurn version id world.old result world.new) (LearnsClear version id (known_of world.old notes.old) result (known_of world.new notes.new)) world.old notes.old world.new notes.new }
 {
-    match notes.reserve() {
-        Ok(()) => {}
-        Err(_) => return Err(StepFault::Memory),
-    }
     let answer = world.clear(alloc, version, id);
     notes.note_clear(version, id, answer);
     answer

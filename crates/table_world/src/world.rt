@@ -1,6 +1,6 @@
 ghost use Rattle.std.specs.Prelude.{◌≡◌, ◌≤◌, length, take, IfOk, IfErr, IsSome};
 ghost use Rattle.table_model.specs.World.{log_of};
-ghost use Rattle.table_world.specs.Noting.{is_seen_name};
+ghost use Rattle.table_model.specs.Noting.{is_seen_name};
 ghost use Rattle.table_world.specs.Worlds.{first_log_name};
 ghost use Rattle.table_world.specs.Starting.{IsFresh, StartFails};
 ghost use Rattle.log_names.specs.Texts.{name_text};

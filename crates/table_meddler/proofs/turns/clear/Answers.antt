@@ -2,7 +2,7 @@ use Rattle.std.proofs.Common.{refl}
 use Rattle.table_model.specs.Conditions.{MayClear}
 use Rattle.table_model.specs.Learning.{LearnsClear}
 use Rattle.table_model.specs.Turns.{ClearTurn}
-use Rattle.table_world.specs.Noted.{known_of}
+use Rattle.table_model.specs.Noted.{known_of}
 use Rattle.table_meddler.proofs.Afterwards.{known_on, done_among, refused_among, may_on}
 use Rattle.table_meddler.proofs.turns.clear.Goals as goal
 

@@ -1,7 +1,7 @@
 use Rattle.std.proofs.Common.{refl}
 use Rattle.table_model.specs.Learning.{LearnsGet}
 use Rattle.table_model.specs.Turns.{GetTurn}
-use Rattle.table_world.specs.Noted.{known_of}
+use Rattle.table_model.specs.Noted.{known_of}
 use Rattle.table_meddler.proofs.Afterwards.{known_on, done_among, refused_among}
 use Rattle.table_meddler.proofs.turns.get.Goals as goal
 

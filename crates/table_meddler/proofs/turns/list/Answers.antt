@@ -1,7 +1,7 @@
 use Rattle.std.proofs.Common.{refl}
 use Rattle.table_model.specs.Learning.{LearnsList}
 use Rattle.table_model.specs.Turns.{ListTurn}
-use Rattle.table_world.specs.Noted.{known_of}
+use Rattle.table_model.specs.Noted.{known_of}
 use Rattle.table_meddler.proofs.Afterwards.{known_on, done_among, refused_among}
 use Rattle.table_meddler.proofs.turns.list.Goals as goal
 

@@ -1,7 +1,7 @@
 use Rattle.std.proofs.Common.{refl}
 use Rattle.table_model.specs.Learning.{LearnsPublish}
 use Rattle.table_model.specs.Turns.{PublishTurn}
-use Rattle.table_world.specs.Noted.{known_of}
+use Rattle.table_model.specs.Noted.{known_of}
 use Rattle.table_meddler.proofs.Afterwards.{known_on, done_among, refused_among, may_publish_on}
 use Rattle.table_meddler.proofs.turns.publish.Goals as goal
 

@@ -5,7 +5,7 @@ use Rattle.std.proofs.lemmas.Int.{to_z-of_z}
 use Rattle.table_model.specs.Conditions.{MayRatify}
 use Rattle.table_model.specs.Learning.{LearnsRatify}
 use Rattle.table_model.specs.Turns.{RatifyTurn}
-use Rattle.table_world.specs.Noted.{known_of}
+use Rattle.table_model.specs.Noted.{known_of}
 use Rattle.table_meddler.proofs.Afterwards.{known_on, done_among, refused_among, may_ratify_on}
 use Rattle.table_meddler.proofs.turns.ratify.Goals as goal
 

@@ -2,7 +2,7 @@ use Rattle.std.proofs.Common.{refl}
 use Rattle.table_model.specs.Conditions.{MayReport}
 use Rattle.table_model.specs.Learning.{LearnsReport}
 use Rattle.table_model.specs.Turns.{ReportTurn}
-use Rattle.table_world.specs.Noted.{known_of}
+use Rattle.table_model.specs.Noted.{known_of}
 use Rattle.table_meddler.proofs.Afterwards.{known_on, done_among, refused_among, may_on}
 use Rattle.table_meddler.proofs.turns.report.Goals as goal
 

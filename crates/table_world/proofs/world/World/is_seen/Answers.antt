@@ -3,7 +3,7 @@ use Rattle.std.specs.Prelude.{take}
 use Rattle.log_names.specs.declared.LogName.{LogName}
 use Rattle.table_model.specs.World.{WorldData, log_of}
 use Rattle.table_world.specs.Worlds.{IsRecordedUnder}
-use Rattle.table_world.specs.Noting.{is_seen_name}
+use Rattle.table_model.specs.Noting.{is_seen_name}
 use Rattle.table_world.proofs.TurnNotes.{seen_test}
 use Rattle.table_world.proofs.world.World.is_seen.Goals as goal
 
