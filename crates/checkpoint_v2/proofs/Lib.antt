@@ -9,3 +9,4 @@ pub mod Once
 pub mod Kept
 pub mod Tables
 pub mod Written
+pub mod Quickly

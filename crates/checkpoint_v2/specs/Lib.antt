@@ -4,3 +4,4 @@ pub mod Refused
 pub mod Table
 pub mod Canonical
 pub mod Left
+pub mod Quick

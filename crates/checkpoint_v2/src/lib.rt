@@ -2,6 +2,7 @@
 #![tactic(auto)]
 
 mod fault;
+mod quick;
 mod reading;
 mod writing;
 

@@ -16,6 +16,7 @@ ghost use Rattle.checkpoint_v2.specs.Refused.{IsRefusedFor};
 ghost use Rattle.checkpoint_v2.specs.Table.{IsCheckpointOf};
 
 use crate::fault::BadCheckpoint;
+use crate::quick::read_quickly;
 use action_fields::kind_of;
 use action_json::keys::Keys;
 use action_json::{BadLine, CheckpointLine, Kind, Why, first_line, read_checkpoint_line};
@@ -54,9 +55,19 @@ pub fn read_checkpoint(alloc: Global, version: u64, bytes: &[u8]) -> Result<Stat
 fn read_state(alloc: Global, version: u64, bytes: &[u8]) -> Result<State, BadCheckpoint>
     ensures { Reads result (outcome version bytes.now) }
 {
-    let actions = read_lines(alloc, version, bytes)?;
+    let actions = read_actions(alloc, version, bytes)?;
     let state = State::empty(alloc).apply(actions.as_slice())?;
     Ok(state)
+}
+
+/// The quick reading where it succeeds; else the one that finds the first fault.
+fn read_actions(alloc: Global, version: u64, bytes: &[u8]) -> Result<Vec<Action>, BadCheckpoint>
+    ensures { Gives told (λ v. v.items) result (outcome version bytes.now) }
+{
+    match read_quickly(alloc, bytes)? {
+        Some(quick) => checked(version, quick.version, quick.actions),
+        None => read_lines(alloc, version, bytes),
+    }
 }
 
 #[tactic(auto, unfolding(crate::specs::Outcome::outcome))]
