@@ -1,16 +1,13 @@
 -- A base under what newer commits decide, put together from its parts.
-use Rattle.std.proofs.Common.{◌≡◌, cond, refl, ap, sym, ◌∙◌}
+use Rattle.std.proofs.Common.{◌≡◌, cond, ap, sym, ◌∙◌}
 use Rattle.std.specs.Prelude.{None, is_some, Result, Ok, Err, IfOk}
 use Rattle.std.specs.FinMap as fin
-use Rattle.action_types.specs.declared.actions.Action.{Action}
-use Rattle.action_types.specs.declared.actions.Action.TheVariants as act
 use Rattle.action_types.specs.declared.actions.Add.{Add}
 use Rattle.action_types.specs.declared.actions.Remove.{Remove}
 use Rattle.reconcile.specs.Keys.{key_cmp}
 use Rattle.reconcile.specs.Replay.{or_else}
 use Rattle.reconcile.specs.Laying.{LaysOver, Strikes}
-use Rattle.reconcile.specs.Steps.{holding}
-use Rattle.reconcile.specs.StepsBack.{dropping, with_newer, settled, IsOver}
+use Rattle.reconcile.specs.StepsBack.{IsOver}
 use Rattle.reconcile.specs.Under.{IsUnderFiles, IsUnderNames}
 use Rattle.reconcile.specs.declared.state.State.{State}
 use Rattle.reconcile.specs.declared.newest.NewestFirst.{NewestFirst}
@@ -60,20 +57,3 @@ over_all base filed named s n files names rest = record {
 
     named_again : State → State
     named_again x = record x { txns = named.txns; domains = named.domains }
-
-dropping_newer : (n : NewestFirst) (a : Action) → (dropping n a).newer ≡ n.newer
-dropping_newer n (act.Info info) = refl
-dropping_newer n (act.Protocol protocol) = refl
-dropping_newer n (act.Meta meta) = refl
-dropping_newer n (act.Txn txn) = refl
-dropping_newer n (act.Domain domain) = refl
-dropping_newer n (act.Remove remove) = refl
-dropping_newer n (act.Add add) = refl
-
--- with what is dropped, and then with what is kept
-pub settled_by : (n dropped : NewestFirst) (newer : State) (a : Action) → dropped ≡ dropping n a → newer ≡ holding dropped.newer a
-    → record dropped { newer = newer } ≡ settled n a
-settled_by n dropped newer a d h =
-    ap (with_newer dropped) h
-    ∙ ap {A = NewestFirst} (λ x. with_newer x (holding x.newer a)) d
-    ∙ ap (λ x. with_newer (dropping n a) (holding x a)) (dropping_newer n a)

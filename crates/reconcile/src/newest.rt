@@ -106,26 +106,18 @@ impl NewestFirst {
     fn settled_copy(self, action: &Action) -> Result<NewestFirst, AllocError>
         ensures { IfOk result (λ n. n ≡ settled self action.now) }
     {
-        let newest = self.dropping(action)?;
-        let newer = newest.newer.holding_copy(action)?;
-        Ok(NewestFirst {
-            newer,
-            dropped: newest.dropped,
-            begun: newest.begun,
-        })
+        let mut newest = self.dropping(action)?;
+        newest.newer.hold_copy(action)?;
+        Ok(newest)
     }
 
     /// With what an action says of what it names.
     fn settled(self, action: Action) -> Result<NewestFirst, AllocError>
         ensures { IfOk result (λ n. n ≡ settled self action) }
     {
-        let newest = self.dropping(&action)?;
-        let newer = newest.newer.holding(action)?;
-        Ok(NewestFirst {
-            newer,
-            dropped: newest.dropped,
-            begun: newest.begun,
-        })
+        let mut newest = self.dropping(&action)?;
+        newest.newer.hold(action)?;
+        Ok(newest)
     }
 
     /// Whether what an action names is decided.

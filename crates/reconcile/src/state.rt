@@ -1,4 +1,4 @@
-ghost use Rattle.std.specs.Prelude.{◌≡◌, ◌↔◌, IsTrue, List, [], ◌∷◌, ◌++◌, None, Some, IfOk, option_map, fold};
+ghost use Rattle.std.specs.Prelude.{◌≡◌, ◌↔◌, IsTrue, List, [], ◌∷◌, ◌++◌, None, Some, IfOk, OnOk, option_map, fold};
 ghost use Rattle.std.specs.Option.{option_copied};
 
 use crate::by_file::ByFile;
@@ -79,7 +79,7 @@ impl State {
     {
         let mut state = self;
         for action in actions {
-            state = state.with_action(action)?;
+            state.take(action)?;
         }
         Ok(state)
     }
@@ -89,120 +89,120 @@ impl State {
     {
         let mut state = self;
         for action in actions {
-            state = state.with_owned_action(action)?;
+            state.take_owned(action)?;
         }
         Ok(state)
     }
 
-    fn with_action(self, action: &Action) -> Result<State, AllocError>
-        ensures { IfOk result (λ s. s ≡ after self action.now) }
+    fn take(&mut self, action: &Action) -> Result<(), AllocError>
+        ensures { OnOk result (self.new ≡ after self.old action.now) }
     {
-        self.cleared(action)?.holding_copy(action)
+        self.clear(action)?;
+        self.hold_copy(action)
     }
 
-    fn with_owned_action(self, action: Action) -> Result<State, AllocError>
-        ensures { IfOk result (λ s. s ≡ after self action) }
+    fn take_owned(&mut self, action: Action) -> Result<(), AllocError>
+        ensures { OnOk result (self.new ≡ after self.old action) }
     {
-        self.cleared(&action)?.holding(action)
+        self.clear(&action)?;
+        self.hold(action)
     }
 
-    /// The state without what an action puts an end to.
-    fn cleared(self, action: &Action) -> Result<State, AllocError>
-        ensures { IfOk result (λ s. s ≡ cleared self action.now) }
+    /// Takes away what an action puts an end to. Refused for want of memory alone.
+    fn clear(&mut self, action: &Action) -> Result<(), AllocError>
+        ensures { OnOk result (self.new ≡ cleared self.old action.now) }
     {
         match action {
-            Action::Domain(domain) => Ok(self.without_domain(domain)),
-            Action::Remove(remove) => self.without_file(remove),
-            Action::Add(add) => self.without_tombstone(add),
-            _ => Ok(self),
+            Action::Domain(domain) => {
+                self.clear_domain(domain);
+                Ok(())
+            }
+            Action::Remove(remove) => self.live.remove(remove.key()),
+            Action::Add(add) => self.gone.remove(add.key()),
+            _ => Ok(()),
         }
     }
 
-    fn without_domain(self, domain: &Domain) -> State
-        ensures { result ≡ cleared self (act.Domain domain.now) }
+    fn clear_domain(&mut self, domain: &Domain)
+        ensures { self.new ≡ cleared self.old (act.Domain domain.now) }
     {
-        let mut state = self;
         if domain.removed {
-            state.domains.remove(domain.domain.as_str());
-            return state;
+            self.domains.remove(domain.domain.as_str());
         }
-        state
     }
 
-    fn without_file(self, remove: &Remove) -> Result<State, AllocError>
-        ensures { IfOk result (λ s. s ≡ cleared self (act.Remove remove.now)) }
-    {
-        let mut state = self;
-        state.live.remove(remove.key())?;
-        Ok(state)
-    }
-
-    fn without_tombstone(self, add: &Add) -> Result<State, AllocError>
-        ensures { IfOk result (λ s. s ≡ cleared self (act.Add add.now)) }
-    {
-        let mut state = self;
-        state.gone.remove(add.key())?;
-        Ok(state)
-    }
-
-    /// The state with what an action says of what it names.
-    pub(crate) fn holding(self, action: Action) -> Result<State, AllocError>
-        ensures { IfOk result (λ s. s ≡ holding self action) }
+    /// Keeps what an action says of what it names. Refused for want of memory alone.
+    pub(crate) fn hold(&mut self, action: Action) -> Result<(), AllocError>
+        ensures { OnOk result (self.new ≡ holding self.old action) }
     {
         match action {
-            Action::Info(info) => Ok(self.with_time(info.time)),
-            Action::Protocol(protocol) => Ok(self.with_protocol(protocol)),
-            Action::Meta(meta) => Ok(self.with_meta(meta)),
-            Action::Txn(txn) => self.with_txn(txn),
-            Action::Domain(domain) => self.holding_domain(domain),
-            Action::Remove(remove) => self.with_tombstone(remove),
-            Action::Add(add) => self.with_file(add),
+            Action::Info(info) => {
+                self.time = Some(info.time);
+                Ok(())
+            }
+            Action::Protocol(protocol) => {
+                self.protocol = Some(protocol);
+                Ok(())
+            }
+            Action::Meta(meta) => {
+                self.meta = Some(meta);
+                Ok(())
+            }
+            Action::Txn(txn) => self.hold_txn(txn),
+            Action::Domain(domain) => self.hold_domain(domain),
+            Action::Remove(remove) => self.hold_tombstone(remove),
+            Action::Add(add) => self.hold_file(add),
         }
     }
 
-    /// The state with a copy of what an action says of what it names.
-    pub(crate) fn holding_copy(self, action: &Action) -> Result<State, AllocError>
-        ensures { IfOk result (λ s. s ≡ holding self action.now) }
+    /// Keeps a copy of what an action says of what it names. Refused for want of memory alone.
+    pub(crate) fn hold_copy(&mut self, action: &Action) -> Result<(), AllocError>
+        ensures { OnOk result (self.new ≡ holding self.old action.now) }
     {
         match action {
-            Action::Info(info) => Ok(self.with_time(info.time)),
-            Action::Protocol(protocol) => self.copying_protocol(protocol),
-            Action::Meta(meta) => self.copying_meta(meta),
-            Action::Txn(txn) => self.copying_txn(txn),
-            Action::Domain(domain) => self.copying_domain(domain),
-            Action::Remove(remove) => self.copying_tombstone(remove),
-            Action::Add(add) => self.copying_file(add),
+            Action::Info(info) => {
+                self.time = Some(info.time);
+                Ok(())
+            }
+            Action::Protocol(protocol) => self.hold_protocol_copy(protocol),
+            Action::Meta(meta) => self.hold_meta_copy(meta),
+            Action::Txn(txn) => self.hold_txn_copy(txn),
+            Action::Domain(domain) => self.hold_domain_copy(domain),
+            Action::Remove(remove) => self.hold_tombstone_copy(remove),
+            Action::Add(add) => self.hold_file_copy(add),
         }
     }
 
-    fn copying_protocol(self, protocol: &Protocol) -> Result<State, AllocError>
-        ensures { IfOk result (λ s. s ≡ holding self (act.Protocol protocol.now)) }
+    fn hold_protocol_copy(&mut self, protocol: &Protocol) -> Result<(), AllocError>
+        ensures { OnOk result (self.new ≡ holding self.old (act.Protocol protocol.now)) }
     {
-        Ok(self.with_protocol(protocol.copy()?))
+        self.protocol = Some(protocol.copy()?);
+        Ok(())
     }
 
-    fn copying_meta(self, meta: &Meta) -> Result<State, AllocError>
-        ensures { IfOk result (λ s. s ≡ holding self (act.Meta meta.now)) }
+    fn hold_meta_copy(&mut self, meta: &Meta) -> Result<(), AllocError>
+        ensures { OnOk result (self.new ≡ holding self.old (act.Meta meta.now)) }
     {
-        Ok(self.with_meta(meta.copy()?))
+        self.meta = Some(meta.copy()?);
+        Ok(())
     }
 
-    fn copying_txn(self, txn: &Txn) -> Result<State, AllocError>
-        ensures { IfOk result (λ s. s ≡ holding self (act.Txn txn.now)) }
+    fn hold_txn_copy(&mut self, txn: &Txn) -> Result<(), AllocError>
+        ensures { OnOk result (self.new ≡ holding self.old (act.Txn txn.now)) }
     {
-        self.with_txn(txn.copy()?)
+        self.hold_txn(txn.copy()?)
     }
 
-    fn copying_tombstone(self, remove: &Remove) -> Result<State, AllocError>
-        ensures { IfOk result (λ s. s ≡ holding self (act.Remove remove.now)) }
+    fn hold_tombstone_copy(&mut self, remove: &Remove) -> Result<(), AllocError>
+        ensures { OnOk result (self.new ≡ holding self.old (act.Remove remove.now)) }
     {
-        self.with_tombstone(remove.copy()?)
+        self.hold_tombstone(remove.copy()?)
     }
 
-    fn copying_file(self, add: &Add) -> Result<State, AllocError>
-        ensures { IfOk result (λ s. s ≡ holding self (act.Add add.now)) }
+    fn hold_file_copy(&mut self, add: &Add) -> Result<(), AllocError>
+        ensures { OnOk result (self.new ≡ holding self.old (act.Add add.now)) }
     {
-        self.with_file(add.copy()?)
+        self.hold_file(add.copy()?)
     }
 
     /// The same state at this time, in milliseconds since 1970 UTC.
@@ -230,60 +230,52 @@ impl State {
         state
     }
 
-    fn with_txn(self, txn: Txn) -> Result<State, AllocError>
-        ensures { IfOk result (λ s. s ≡ holding self (act.Txn txn)) }
+    fn hold_txn(&mut self, txn: Txn) -> Result<(), AllocError>
+        ensures { OnOk result (self.new ≡ holding self.old (act.Txn txn)) }
     {
-        let mut state = self;
-        state.txns.insert(txn.app.copy()?, txn)?;
-        Ok(state)
+        self.txns.insert(txn.app.copy()?, txn)
     }
 
-    fn with_domain(self, domain: Domain) -> Result<State, AllocError>
-        ensures { IfOk result (λ s. s ≡ record self { domains = fin.insert self.domains domain.domain domain }) }
+    fn put_domain(&mut self, domain: Domain) -> Result<(), AllocError>
+        ensures { OnOk result (self.new ≡ record self.old { domains = fin.insert self.old.domains domain.domain domain }) }
     {
-        let mut state = self;
-        state.domains.insert(domain.domain.copy()?, domain)?;
-        Ok(state)
+        self.domains.insert(domain.domain.copy()?, domain)
     }
 
-    fn holding_domain(self, domain: Domain) -> Result<State, AllocError>
-        ensures { IfOk result (λ s. s ≡ holding self (act.Domain domain)) }
+    fn hold_domain(&mut self, domain: Domain) -> Result<(), AllocError>
+        ensures { OnOk result (self.new ≡ holding self.old (act.Domain domain)) }
     {
         if !domain.removed {
-            return self.with_domain(domain);
+            return self.put_domain(domain);
         }
-        Ok(self)
+        Ok(())
     }
 
-    fn copying_domain(self, domain: &Domain) -> Result<State, AllocError>
-        ensures { IfOk result (λ s. s ≡ holding self (act.Domain domain.now)) }
+    fn hold_domain_copy(&mut self, domain: &Domain) -> Result<(), AllocError>
+        ensures { OnOk result (self.new ≡ holding self.old (act.Domain domain.now)) }
     {
         if !domain.removed {
-            return self.with_domain(domain.copy()?);
+            return self.put_domain(domain.copy()?);
         }
-        Ok(self)
+        Ok(())
     }
 
-    fn with_tombstone(self, remove: Remove) -> Result<State, AllocError>
-        ensures { IfOk result (λ s. s ≡ holding self (act.Remove remove)) }
+    fn hold_tombstone(&mut self, remove: Remove) -> Result<(), AllocError>
+        ensures { OnOk result (self.new ≡ holding self.old (act.Remove remove)) }
     {
-        let mut state = self;
         let mut kept = remove;
         kept.change = false;
-        let file = state.gone.name(kept.key())?;
-        state.gone.insert(file, kept)?;
-        Ok(state)
+        let file = self.gone.name(kept.key())?;
+        self.gone.insert(file, kept)
     }
 
-    fn with_file(self, add: Add) -> Result<State, AllocError>
-        ensures { IfOk result (λ s. s ≡ holding self (act.Add add)) }
+    fn hold_file(&mut self, add: Add) -> Result<(), AllocError>
+        ensures { OnOk result (self.new ≡ holding self.old (act.Add add)) }
     {
-        let mut state = self;
         let mut kept = add;
         kept.change = false;
-        let file = state.live.name(kept.key())?;
-        state.live.insert(file, kept)?;
-        Ok(state)
+        let file = self.live.name(kept.key())?;
+        self.live.insert(file, kept)
     }
 
     /// The live file that a key names, its `change` false. It takes no memory; under one path the files with
