@@ -13,7 +13,7 @@ either : {B : Type 0} (P : B → Type 0) (a b : Option B) → IfSome a P → IfS
 either P None b h k = k
 either P (Some x) b h k = h
 
-said_kept : {A B : Type 0} (P : B → Type 0) (Q : A → Type 0) (says : A → Option B) → ((a : A) → Q a → IfSome (says a) P) → (xs : List A) → AllByRecursion Q xs → IfSome (last_said says xs) P
+pub said_kept : {A B : Type 0} (P : B → Type 0) (Q : A → Type 0) (says : A → Option B) → ((a : A) → Q a → IfSome (says a) P) → (xs : List A) → AllByRecursion Q xs → IfSome (last_said says xs) P
 said_kept P Q says k [] h = tt
 said_kept P Q says k (x ∷ xs) h = either P (last_said says xs) (says x) (said_kept P Q says k xs h.1) (k x h.0)
 

@@ -10,3 +10,4 @@ pub mod Kept
 pub mod Tables
 pub mod Written
 pub mod Quickly
+pub mod Orders

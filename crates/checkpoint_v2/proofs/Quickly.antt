@@ -1,9 +1,8 @@
 -- Where the lines say actions of distinct digests, the reading goes to its end.
-use Rattle.std.proofs.Common.{◌≡◌, ℕ, ◌+◌, ◌==◌, List, [], ◌∷◌, ◌++◌, length, map, Bool, true, false, is_some, Option, Some, None, Result, Ok, Err, refl, ap, subst, arith, if◌then◌else◌}
+use Rattle.std.proofs.Common.{◌≡◌, ℕ, ◌+◌, List, [], ◌∷◌, ◌++◌, length, is_some, Option, Some, None, Result, Ok, Err, ap, subst, arith, if◌then◌else◌}
 use Rattle.text_lines.specs.Lines.{cut}
 use Rattle.text_lines.proofs.Cutting.{cut-nil}
 use Rattle.action_types.specs.declared.actions.Action.{Action}
-use Rattle.action_fields.specs.Canonical.{kind_of}
 use Rattle.action_fields.specs.declared.kind.Kind.TheVariants as kind
 use Rattle.action_json.specs.CheckpointLines.{checkpoint_line_of}
 use Rattle.action_json.specs.Commit.{double_of, if_some}
@@ -12,7 +11,7 @@ use Rattle.action_json.specs.declared.checkpoint_line.CheckpointLine.{Checkpoint
 use Rattle.action_json.specs.declared.checkpoint_line.CheckpointLine.TheVariants as says
 use Rattle.action_json.specs.declared.fault.Why.{Why}
 use Rattle.action_json.proofs.Quickly.{no_double, action_is_new}
-use Rattle.checkpoint_v2.specs.Outcome.{Read, unless_double, after_line, checked, outcome_from, outcome}
+use Rattle.checkpoint_v2.specs.Outcome.{unless_double, after_line, checked, outcome_from, outcome}
 use Rattle.checkpoint_v2.specs.Quick.{Found, said_after, said_from}
 
 -- the actions before the last lines, where those lines leave all actions with distinct digests

@@ -276,7 +276,7 @@ live_or_gone : (log : Log) (file : File) → one (is_some (gone_at file log)) + 
 unfolding live_at gone_at
 live_or_gone log file = not_both (in_log (mention file) log)
 
-same_bytes : (x y : List ℕ) → bytes_eq x y ≡ same_name y x
+pub same_bytes : (x y : List ℕ) → bytes_eq x y ≡ same_name y x
 same_bytes x y = sym (is_eq-slice_cmp x y) ∙ names_equiv.symm x y
 
 count_txn : (s : State) (log : Log) (app : List ℕ) → HasTableOf s log → count_by (is_of_app app) (map action.Txn (txns_in s)) ≤ 1

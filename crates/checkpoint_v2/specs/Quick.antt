@@ -2,7 +2,7 @@
 use Rattle.std.specs.Prelude.{◌≡◌, ℕ, List, [], ◌∷◌, ◌++◌, map, is_some, Option, Some, None, Result, Ok, Err, if◌then◌else◌}
 use Rattle.action_types.specs.declared.actions.Action.{Action}
 use Rattle.action_json.specs.CheckpointLines.{checkpoint_line_of}
-use Rattle.action_json.specs.Digests.{HasDistinctDigests, digest_of}
+use Rattle.action_json.specs.Digests.{digest_of}
 use Rattle.action_json.specs.declared.checkpoint_line.CheckpointLine.{CheckpointLine}
 use Rattle.action_json.specs.declared.checkpoint_line.CheckpointLine.TheVariants as says
 use Rattle.action_json.specs.declared.fault.Why.{Why}
