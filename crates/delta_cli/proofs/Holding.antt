@@ -13,16 +13,16 @@ use Rattle.table_model.specs.Holding.{terms_of, IsLater}
 use Rattle.table_model.specs.Alone.{Alone, HasAll, HasPutAll, IsAfter}
 use Rattle.table_model.proofs.Knowing.{length-log_of}
 use Rattle.table_model.proofs.Growing.{starts_refl}
-use Rattle.table_session.proofs.Wholes.{told_over, session_whole}
-use Rattle.table_session.proofs.Contests.{run_uncontested, run_all_untaken}
+use Rattle.answer_names.specs.Names.{Names}
+use Rattle.answer_names.specs.Together.{versions_in, faults_in}
+use Rattle.answer_names.specs.Whole.{IsWhole}
+use Rattle.table_session.proofs.Wholes.{told_over, session_whole, names_joined}
+use Rattle.table_session.proofs.Others.{run_uncontested, run_all_untaken}
 use Rattle.table_world.specs.Worlds.{fresh_world}
 use Rattle.table_world.specs.Starting.{IsFresh}
 use Rattle.table_world.proofs.Fresh.{fresh_put}
 use Rattle.publisher.specs.Worlds.{IsSettled, KeepsLog}
-use Rattle.table_session.specs.Moments.{Moment}
-use Rattle.table_session.specs.Naming.{versions_of}
-use Rattle.table_session.specs.Told.{versions_in, faults_in}
-use Rattle.table_session.specs.Over.{IsWhole}
+use Rattle.table_session.specs.Moments.{Moment, names_in}
 use Rattle.table_session.specs.Sessions.{SessionOf, Wrote}
 use Rattle.delta_cli.specs.Endings.{IsStatusOf, IsCutShort, HasFailed, DrainsWithoutFault}
 use Rattle.delta_cli.specs.Runs.{CountsCommits, HasRun}
@@ -42,11 +42,11 @@ same_front front (c ∷ cs) whole is long = absurd (omega (arith, long, ap lengt
 same_log : (w x : WorldData) → StartsWith (log_of x) (log_of w) → x.records ≡ w.records → log_of x ≡ log_of w
 same_log w x s e = same_front (log_of w) s.rest (log_of x) s.is (length-log_of x ∙ ap length e ∙ sym (length-log_of w))
 
-lacks_none : (unsaid : List Moment) → unsaid ≡ [] → length (versions_in unsaid) ≡ 0
-lacks_none unsaid e = ap (λ xs. length (versions_in xs)) e
+lacks_none : (unsaid : List Moment) → unsaid ≡ [] → length (versions_in (names_in unsaid)) ≡ 0
+lacks_none unsaid e = ap (λ xs. length (versions_in (names_in xs))) e
 
 -- where a reply is lacking, the sink failed or memory ran out
-lacking_by : (wrote : List ℕ) (said unsaid : List Moment) (e : End) → Wrote wrote said unsaid e → 0 < length (versions_in unsaid) → (e ≡ end.WriteFault) ⊎ (e ≡ end.Memory)
+lacking_by : (wrote : List ℕ) (said unsaid : List Moment) (e : End) → Wrote wrote said unsaid e → 0 < length (versions_in (names_in unsaid)) → (e ≡ end.WriteFault) ⊎ (e ≡ end.Memory)
 lacking_by wrote said unsaid end.Done h some = absurd (omega (arith, some, lacks_none unsaid h.none))
 lacking_by wrote said unsaid end.ReadFault h some = absurd (omega (arith, some, lacks_none unsaid h.none))
 lacking_by wrote said unsaid end.WriteFault h some = inl refl
@@ -67,17 +67,17 @@ cut_short e status.NotEmpty s h = s
 cut_short e status.TooMuch s (inl h) = cc
 cut_short e status.TooMuch s (inr h) = cc
 
-versions_joined : (moments said unsaid : List Moment) → moments ≡ said ++ unsaid → length (versions_in said) + length (versions_in unsaid) ≡ length (versions_in moments)
+versions_joined : (moments said unsaid : List Moment) → moments ≡ said ++ unsaid → length (versions_in (names_in said)) + length (versions_in (names_in unsaid)) ≡ length (versions_in (names_in moments))
 versions_joined moments said unsaid is =
     sym
-    (ap (λ xs. length (versions_in xs)) is
-    ∙ ap length (flat_map-append (λ x. versions_of x.reply) said unsaid)
-    ∙ length-append (versions_in said) (versions_in unsaid))
+    (ap (λ xs. length (versions_in xs)) (ap names_in is ∙ names_joined said unsaid)
+    ∙ ap length (flat_map-append (λ (a : Names). a.versions) (names_in said) (names_in unsaid))
+    ∙ length-append (versions_in (names_in said)) (versions_in (names_in unsaid)))
 
-counts_commits : (wrote : List ℕ) (moments said unsaid : List Moment) (e : End) (st : Status) (log : ℕ) → moments ≡ said ++ unsaid → IsWhole moments said unsaid
-    → Wrote wrote said unsaid e → IsStatusOf e st → length (versions_in moments) ≡ log → CountsCommits (length (versions_in said)) (length (versions_in unsaid)) log st
+counts_commits : (wrote : List ℕ) (moments said unsaid : List Moment) (e : End) (st : Status) (log : ℕ) → moments ≡ said ++ unsaid → IsWhole (names_in moments) (names_in said) (names_in unsaid)
+    → Wrote wrote said unsaid e → IsStatusOf e st → length (versions_in (names_in moments)) ≡ log → CountsCommits (length (versions_in (names_in said))) (length (versions_in (names_in unsaid))) log st
 counts_commits wrote moments said unsaid e st log is whole w s all =
-    let joined : length (versions_in said) + length (versions_in unsaid) ≡ length (versions_in moments) = versions_joined moments said unsaid is in
+    let joined : length (versions_in (names_in said)) + length (versions_in (names_in unsaid)) ≡ length (versions_in (names_in moments)) = versions_joined moments said unsaid is in
     record {
       all = joined ∙ all;
       most = omega (arith, joined, whole.most);
@@ -124,8 +124,8 @@ held limits files tells w0 w1 w2 k1 k2 fixed reading differ given differ' given'
     let there : SessionOf tells (at_start (terms_of w2)) k1 fixed reading differ given differ' given' in_tells taken left taken' left' out_tells written written' e =
     subst (λ (t : Terms). SessionOf tells (at_start t) k1 fixed reading differ given differ' given' in_tells taken left taken' left' out_tells written written' e) (sym terms) session in
     let log : log_of w2 ≡ log_of w1 = same_log w1 w2 second.later.log keeps.records in
-    let count : length (versions_in there.session.moments) ≡ length (log_of w2) =
-    sym (ap length there.session.told.mine) ∙ all.mine ∙ sym (length-log_of w1) ∙ sym (ap length log) in
+    let count : length (versions_in (names_in there.session.moments)) ≡ length (log_of w2) =
+    sym (ap length there.session.told.together.mine) ∙ all.mine ∙ sym (length-log_of w1) ∙ sym (ap length log) in
     record {
       empty = fresh.empty;
       limits_are = is_limits;
@@ -143,12 +143,12 @@ held limits files tells w0 w1 w2 k1 k2 fixed reading differ given differ' given'
           let begun : HasPutAll (record { world = w0; known = at_start (terms_of w0) }) =
           subst (λ (w : WorldData). HasPutAll (record { world = w; known = at_start (terms_of w) })) (sym fresh.is) (fresh_put limits files tells (fresh.empty t)) in
           let puts : HasPutAll (record { world = w1; known = k1 }) = first.puts (ap (λ (w : WorldData). w.tells) fresh.is ∙ t) begun in
-          run_all_untaken tells (at_start (terms_of w2)) k1 (terms_of w2) there.session.moments differ given given' there.session.run refl refl puts.taken (there.names differs);
+          run_all_untaken tells (at_start (terms_of w2)) k1 there.session.moments differ given given' there.session.run refl puts.taken (there.names differs);
       told = told_over tells (at_start (terms_of w2)) k1 there.session.moments (log_of w2) (subst (λ (log : List Commit). StartsWith log k1.seen) (all.seen ∙ sym log) (starts_refl k1.seen)) there.session.told;
       commits = counts_commits there.wrote there.session.moments there.session.said there.session.unsaid e st (length (log_of w2)) there.session.all
           (session_whole tells there.read there.wrote (at_start (terms_of w2)) k1 e there.session) there.session.wrote_is ends count;
-      faults = λ t some. rose_in_session w0 w1 (terms_of w0) k1 (faults_in there.session.moments) none first some (there.session.told.faults t);
-      silent = silent_session w0 w1 (terms_of w0) k1 (faults_in there.session.moments) none first there.session.told.no_other;
+      faults = λ t some. rose_in_session w0 w1 (terms_of w0) k1 (faults_in (names_in there.session.moments)) none first some (there.session.told.together.faults t);
+      silent = silent_session w0 w1 (terms_of w0) k1 (faults_in (names_in there.session.moments)) none first there.session.told.together.no_other;
       rise = w1.tally;
       later = second.later.tally;
       drain = λ is. drain_failed tells w1 w2 k1 k2 second (failed is);

@@ -10,9 +10,10 @@ use Rattle.table_model.specs.Knowledge.{Knowledge, at_start}
 use Rattle.table_model.specs.Holding.{terms_of}
 use Rattle.table_world.specs.Worlds.{first_log_name}
 use Rattle.publisher.specs.Worlds.{IsSettled}
-use Rattle.table_session.specs.Told.{versions_in, faults_in}
+use Rattle.answer_names.specs.Together.{versions_in, faults_in}
+use Rattle.answer_names.specs.Others.{IsUncontested, IsUntaken}
+use Rattle.table_session.specs.Moments.{names_in}
 use Rattle.table_session.specs.Over.{ToldOver}
-use Rattle.table_session.specs.Contests.{IsUncontested, IsUntaken}
 use Rattle.table_session.specs.Sessions.{SessionOf}
 use Rattle.delta_cli.specs.Words.{IsRun}
 use Rattle.delta_cli.specs.Endings.{IsStatusOf, IsCutShort, DrainsWithoutFault}
@@ -56,16 +57,16 @@ pub record HasRun (limits : Limits) (tells : Bool) (files : Files) (fixed : Bool
   -- each reply is right of the commits of this world, fronts never fall, and none is above their number
   pub told : ToldOver tells session.session.moments (log_of world)
   -- nobody else ratifies: no reply is Conflict or Contended
-  pub alone : All (λ x. IsUncontested x.reply) session.session.moments
+  pub alone : All IsUncontested (names_in session.session.moments)
   -- nobody else stages: where the ids are all told to differ, no reply is Taken
-  pub untaken : IsTrue tells → IsTrue differ' → All (λ x. IsUntaken x.reply) session.session.moments
+  pub untaken : IsTrue tells → IsTrue differ' → All IsUntaken (names_in session.session.moments)
   -- each commit of the table is that of one Committed reply
-  pub commits : CountsCommits (length (versions_in session.session.said)) (length (versions_in session.session.unsaid)) (length (log_of world)) st
+  pub commits : CountsCommits (length (versions_in (names_in session.session.said))) (length (versions_in (names_in session.session.unsaid))) (length (log_of world)) st
   -- by so much had the store's count of faults risen when the session ended; a Fault reply comes only where it rose, and it rose only where
   -- one comes
   pub rise : ℕ
-  pub faults : IsTrue tells → 0 < faults_in session.session.moments → 0 < rise
-  pub silent : faults_in session.session.moments ≡ 0 → rise ≡ 0
+  pub faults : IsTrue tells → 0 < faults_in (names_in session.session.moments) → 0 < rise
+  pub silent : faults_in (names_in session.session.moments) ≡ 0 → rise ≡ 0
   -- in the drain it rose further, where that failed
   pub later : rise ≤ world.tally
   pub drain : st ≡ status.StoreFault → (rise < world.tally) ⊎ (¬ (IsTrue tells))

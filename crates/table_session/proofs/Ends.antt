@@ -21,7 +21,7 @@ use Rattle.table_session.specs.Sessions as sessions
 use Rattle.table_session.specs.declared.hearing.Asked.{Asked}
 use Rattle.table_session.proofs.Chains.{run_told}
 use Rattle.writer_txn.specs.Named.{NamesApart}
-use Rattle.table_session.specs.Naming.{takens_of}
+use Rattle.table_session.specs.Naming.{named_by}
 use Rattle.table_session.proofs.Turns.{Before, Talking, run_more, lines_said, readings_more, names_more}
 
 -- the first lines have the first of the lines that ask
@@ -142,7 +142,7 @@ pub ends_short : (tells fixed in_tells out_tells : Bool) (b : Before) (k : Knowl
     → (t : Talking tells fixed in_tells out_tells b k reading differ given taken left written at) → (h : HearsLine in_tells taken left t.bytes t.handed a taken' left' at')
     → gets_reply (numbered (length t.handed + 1) h.text) ≡ true
     → (x : Moment) → x.line ≡ numbered (length t.handed + 1) h.text → IsRight tells k x → (IsTrue fixed → x.reading ≡ reading)
-    → (differ' : Bool) (given' : List ℕ) → (IsTrue differ' → NamesApart differ given given' (takens_of x.reply) k x.after)
+    → (differ' : Bool) (given' : List ℕ) → (IsTrue differ' → NamesApart differ given given' (named_by x.reply).takens k x.after)
     → (text written' : List ℕ) (ended : End) → text ≡ reply_text_of x.reply → SaidShort out_tells written text ended written'
     → SessionOf tells b.known x.after fixed b.reading b.differ b.given differ' given' in_tells b.taken b.left taken' left' out_tells b.written written' ended
 ends_short tells fixed in_tells out_tells b k reading differ given taken left taken' left' written at at' a t h said x line right steady differ' given' names text written' ended is put =

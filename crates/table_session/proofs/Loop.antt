@@ -11,7 +11,7 @@ use Rattle.table_model.specs.Knowledge.{Knowledge, IsGrown}
 use Rattle.table_model.proofs.Growing.{grows_trans}
 use Rattle.table_session.specs.Moments.{moment}
 use Rattle.writer_txn.specs.Named.{NamesApart}
-use Rattle.table_session.specs.Naming.{takens_of}
+use Rattle.table_session.specs.Naming.{named_by}
 use Rattle.table_session.specs.Asking.{gets_reply}
 use Rattle.table_session.specs.Running.{IsRight}
 use Rattle.table_session.specs.Hearing.{IsAskedIn, HearsEnd, Hears}
@@ -46,7 +46,7 @@ module _ (tells fixed in_tells out_tells : Bool) (b : Before) (k : Knowledge) (r
   module _ (a : Asked) (gets : Bool) (hears : HearsAny in_tells taken left at (Ok a) taken' left' at') (is : (line : Numbered) → IsAskedIn line a → gets ≡ gets_reply line) (some : gets ≡ true)
       (reply : Reply) (after : Knowledge) (reading' : ℤ) (last : ℕ) (right : (line : Numbered) → IsAskedIn line a → IsRight tells k (moment line reply after reading' last))
       (steady : IsTrue fixed → reading' ≡ reading)
-      (differ' : Bool) (given' : List ℕ) (names : IsTrue differ' → NamesApart differ given given' (takens_of reply) k after) where
+      (differ' : Bool) (given' : List ℕ) (names : IsTrue differ' → NamesApart differ given given' (named_by reply).takens k after) where
     pub turn_said : (written' : List ℕ) → written' ≡ written ++ told out_tells (reply_text_of reply) → Talking tells fixed in_tells out_tells b after reading' differ' given' taken' left' written' at'
     turn_said written' put =
         let h = hears t.bytes t.handed t.heard in

@@ -1,15 +1,12 @@
-pub mod Moments
 pub mod Naming
-pub mod Gaining
+pub mod Moments
 pub mod Asking
-pub mod Telling
+pub mod Replying
 pub mod Standing
 pub mod Owning
 pub mod Running
 pub mod Told
 pub mod Sessions
 pub mod Over
-pub mod Contests
 pub mod Hearing
 pub mod Speaking
-pub mod Replying

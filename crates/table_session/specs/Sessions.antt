@@ -8,10 +8,11 @@ use Rattle.lake_io.specs.Told.{Takes, told}
 use Rattle.lake_io.specs.Causes.{Rose}
 use Rattle.session_lines.specs.Replies.{reply_text_of}
 use Rattle.table_model.specs.Knowledge.{Knowledge}
-use Rattle.table_session.specs.Moments.{Moment, lines_of, texts_of}
+use Rattle.answer_names.specs.Together.{takens_in}
+use Rattle.table_session.specs.Moments.{Moment, lines_of, texts_of, names_in}
 use Rattle.table_session.specs.Asking.{lines_asking}
 use Rattle.table_session.specs.Running.{Run}
-use Rattle.table_session.specs.Told.{Told, takens_in}
+use Rattle.table_session.specs.Told.{Told}
 use Rattle.writer_txn.specs.Named.{NamesApart}
 
 -- the first of a list of lines
@@ -79,7 +80,7 @@ pub record SessionOf (tells : Bool) (k m : Knowledge) (fixed : Bool) (reading : 
   pub source : Takes in_tells taken left read taken' left'
   pub sink : written' ≡ written ++ told out_tells wrote
   pub clock : IsTrue fixed → All (λ x. x.reading ≡ reading) session.moments
-  pub names : IsTrue differ' → NamesApart differ given given' (takens_in session.moments) k m
+  pub names : IsTrue differ' → NamesApart differ given given' (takens_in (names_in session.moments)) k m
   pub whole : ended ≡ end.Done → IsTrue in_tells → left' ≡ []
 
 -- a count that never falls, and went up where this holds
