@@ -1,5 +1,5 @@
 -- What an answer owes to its moment, from what its call left.
-use Rattle.std.proofs.Common.{◌≡◌, ◌≤◌, ◌+◌, ◌<◌, ℕ, Bool, IsTrue, zero, suc, List, [], ◌∷◌, ◌++◌, length, filter, refl, sym, ◌∙◌, ap, subst, length-append, append-nil, arith, true, false, cond, Option, Some, None}
+use Rattle.std.proofs.Common.{◌≡◌, ◌≤◌, ◌+◌, ◌<◌, ℕ, Bool, IsTrue, zero, suc, List, [], ◌∷◌, ◌++◌, length, filter, refl, sym, ◌∙◌, ap, subst, length-append, append-nil, arith, true, false, cond, Some}
 use Rattle.std.specs.Prelude.{All, Contains, IfSome, IsSomeAnd, IsFalse, slice_index_or}
 use Rattle.std.proofs.lemmas.List.Elements.{All-nil, filter-append}
 use Rattle.log_names.specs.declared.LogName.{LogName}

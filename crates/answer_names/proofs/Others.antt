@@ -1,17 +1,17 @@
 -- Where each new version is the caller's own and no try was lost, no answer tells of others; where each name that was found taken was put by
 -- the caller, and none by these calls, no answer tells of a name that was taken.
-use Rattle.std.proofs.Common.{◌≡◌, ◌⊎◌, ◌≤◌, ◌<◌, ◌+◌, ℕ, Bool, true, false, IsTrue, List, [], ◌∷◌, ◌++◌, length, refl, inl, inr, sym, ◌∙◌, ap, subst, length-append, arith, Option, Some, None}
+use Rattle.std.proofs.Common.{◌≡◌, ◌⊎◌, ◌≤◌, ◌<◌, ◌+◌, ℕ, Bool, true, false, IsTrue, List, [], ◌∷◌, length, refl, inl, inr, sym, ◌∙◌, ap, subst, length-append, arith, Option, Some, None}
 use Rattle.std.specs.Prelude.{All, Contains, IfSome, IsSomeAnd, IsFalse}
 use Rattle.std.proofs.lemmas.List.Elements.{All-nil, All-cons, Contains-append_left, Contains-append_right, Contains-append_cases}
 use Rattle.log_names.specs.declared.LogName.{LogName}
 use Rattle.log_names.specs.declared.LogName.TheVariants as name
 use Rattle.table_model.specs.Knowledge.{Knowledge, Terms}
 use Rattle.answer_names.specs.Names.{Names, Answer, names_of}
-use Rattle.answer_names.specs.Gaining.{one_for, IsFront, IsStagedName, Gains}
+use Rattle.answer_names.specs.Gaining.{one_for, IsFront, IsStagedName}
 use Rattle.answer_names.specs.Chain.{Follows, Chain}
 use Rattle.answer_names.specs.Together.{versions_in, takens_in, total}
 use Rattle.answer_names.specs.Others.{IsUncontested, IsUntaken}
-use Rattle.answer_names.proofs.Chains.{chain_grows, length_longer, length_grown}
+use Rattle.answer_names.proofs.Chains.{chain_grows, length_grown}
 
 -- ---- each answer that tells of others makes what is seen, or the list of lost tries, longer than its own versions do
 

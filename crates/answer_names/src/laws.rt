@@ -21,7 +21,8 @@ pub fn answers_stand_over_a_longer_log()
         → length m.seen ≤ commits → Together tells k answers m → AreWithin answers commits }
 {}
 
-/// Where all but at most one are written whole, the version that the other names is above all that was written.
+/// Where all but at most one are written whole, the version that the other names is above all that
+/// was written.
 pub fn one_answer_at_most_is_not_written()
     ensures { (low : ℕ) (said unsaid : List Names) → FrontsRise low (said ++ unsaid)
         → All HasOneVersion unsaid → length unsaid ≤ 1 → IsWhole (said ++ unsaid) said unsaid }
@@ -35,10 +36,13 @@ pub fn answers_where_nobody_else_ratifies_are_uncontested()
         → All IsUncontested (names_of xs) }
 {}
 
-/// Where each name that was found taken is among those that the caller may have put, and no name that an answer tells as taken is, none tells one.
+/// Where each name that was found taken is among those that the caller may have put, and no name that
+/// an answer tells as taken is, none tells one.
 pub fn answers_where_nobody_else_stages_are_untaken()
     ensures { (tells : Bool) (k m : Knowledge) (xs : List Answer) → Chain tells k xs m
-        → ((version id : ℕ) → Contains m.takens (name.Staged version id) → Contains m.put (name.Staged version id))
-        → ((version id : ℕ) → Contains (takens_in (names_of xs)) (name.Staged version id) → ¬ (Contains m.put (name.Staged version id)))
+        → ((version id : ℕ) → Contains m.takens (name.Staged version id)
+        → Contains m.put (name.Staged version id))
+        → ((version id : ℕ) → Contains (takens_in (names_of xs)) (name.Staged version id)
+        → ¬ (Contains m.put (name.Staged version id)))
         → All IsUntaken (names_of xs) }
 {}

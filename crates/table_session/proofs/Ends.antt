@@ -18,6 +18,7 @@ use Rattle.table_session.specs.Hearing.{HearsLine, HearsEnd, HeardEnd}
 use Rattle.table_session.specs.Speaking.{SaidShort}
 use Rattle.table_session.specs.Sessions.{IsFirstOf, HeardMost, WroteAll, WroteShort, WroteSome, Wrote, Session, SessionOf}
 use Rattle.table_session.specs.Sessions as sessions
+use Rattle.table_session.specs.Views.{source_view, sink_view, clock_view, ids_view}
 use Rattle.table_session.specs.declared.hearing.Asked.{Asked}
 use Rattle.table_session.proofs.Chains.{run_told}
 use Rattle.writer_txn.specs.Named.{NamesApart}
@@ -55,7 +56,8 @@ wrote_all tells left read handed end.Memory said h = record { one = omega arith;
 -- no further line
 pub ends_heard : (tells fixed in_tells out_tells : Bool) (b : Before) (k : Knowledge) (reading : ℤ) (differ : Bool) (given taken left taken' left' written : List ℕ) (at : At) (ended : End)
     → (t : Talking tells fixed in_tells out_tells b k reading differ given taken left written at) → HearsEnd in_tells taken left t.bytes t.handed ended taken' left'
-    → SessionOf tells b.known k fixed b.reading b.differ b.given differ given in_tells b.taken b.left taken' left' out_tells b.written written ended
+    → SessionOf tells b.known k (source_view in_tells b.taken b.left taken' left') (sink_view out_tells b.written written) (clock_view fixed b.reading)
+    (ids_view b.differ b.given differ given) ended
 ends_heard tells fixed in_tells out_tells b k reading differ given taken left taken' left' written at ended t h = record {
   read = t.bytes ++ h.new;
   wrote = texts_of t.moments;
@@ -69,9 +71,9 @@ ends_heard tells fixed in_tells out_tells b k reading differ given taken left ta
     all = sym (append-nil t.moments);
     wrote_is = wrote_all in_tells left' (t.bytes ++ h.new) t.handed ended t.moments h.heard;
   };
-  source = takes_both in_tells b.taken b.left t.bytes taken left h.new taken' left' t.source h.takes;
-  sink = t.sink;
-  clock = t.readings;
+  reads = takes_both in_tells b.taken b.left t.bytes taken left h.new taken' left' t.source h.takes;
+  writes = t.sink;
+  readings = t.readings;
   names = t.names;
   whole = nothing_left in_tells left' (t.bytes ++ h.new) t.handed ended h.heard;
 }
@@ -79,7 +81,8 @@ ends_heard tells fixed in_tells out_tells b k reading differ given taken left ta
 -- memory ran out between two lines
 pub ends_between : (tells fixed in_tells out_tells : Bool) (b : Before) (k : Knowledge) (reading : ℤ) (differ : Bool) (given taken left written : List ℕ) (at : At)
     → Talking tells fixed in_tells out_tells b k reading differ given taken left written at
-    → SessionOf tells b.known k fixed b.reading b.differ b.given differ given in_tells b.taken b.left taken left out_tells b.written written end.Memory
+    → SessionOf tells b.known k (source_view in_tells b.taken b.left taken left) (sink_view out_tells b.written written) (clock_view fixed b.reading)
+    (ids_view b.differ b.given differ given) end.Memory
 ends_between tells fixed in_tells out_tells b k reading differ given taken left written at t = record {
   read = t.bytes;
   wrote = texts_of t.moments;
@@ -93,9 +96,9 @@ ends_between tells fixed in_tells out_tells b k reading differ given taken left 
     all = sym (append-nil t.moments);
     wrote_is = record { one = omega arith; is = refl };
   };
-  source = t.source;
-  sink = t.sink;
-  clock = t.readings;
+  reads = t.source;
+  writes = t.sink;
+  readings = t.readings;
   names = t.names;
   whole = λ e w. cc;
 }
@@ -144,7 +147,8 @@ pub ends_short : (tells fixed in_tells out_tells : Bool) (b : Before) (k : Knowl
     → (x : Moment) → x.line ≡ numbered (length t.handed + 1) h.text → IsRight tells k x → (IsTrue fixed → x.reading ≡ reading)
     → (differ' : Bool) (given' : List ℕ) → (IsTrue differ' → NamesApart differ given given' (named_by x.reply).takens k x.after)
     → (text written' : List ℕ) (ended : End) → text ≡ reply_text_of x.reply → SaidShort out_tells written text ended written'
-    → SessionOf tells b.known x.after fixed b.reading b.differ b.given differ' given' in_tells b.taken b.left taken' left' out_tells b.written written' ended
+    → SessionOf tells b.known x.after (source_view in_tells b.taken b.left taken' left') (sink_view out_tells b.written written') (clock_view fixed b.reading)
+    (ids_view b.differ b.given differ' given') ended
 ends_short tells fixed in_tells out_tells b k reading differ given taken left taken' left' written at at' a t h said x line right steady differ' given' names text written' ended is put =
     let s = short out_tells b.written written written' text t.moments x ended is t.sink put in
     let run = run_more tells b.known k t.moments x t.run right in
@@ -164,9 +168,9 @@ ends_short tells fixed in_tells out_tells b k reading differ given taken left ta
         all = refl;
         wrote_is = s.wrote_is;
       };
-      source = takes_both in_tells b.taken b.left t.bytes taken left h.new taken' left' t.source h.takes;
-      sink = s.sink;
-      clock = λ f. readings_more b.reading t.moments x (t.readings f) (steady f ∙ t.steady f);
+      reads = takes_both in_tells b.taken b.left t.bytes taken left h.new taken' left' t.source h.takes;
+      writes = s.sink;
+      readings = λ f. readings_more b.reading t.moments x (t.readings f) (steady f ∙ t.steady f);
       names = names_more b.differ differ differ' b.given given given' b.known k t.moments x t.names names;
       whole = λ e w. absurd (not_done ended s.kind e);
     }

@@ -17,6 +17,7 @@ use Rattle.table_session.specs.Running.{IsRight}
 use Rattle.table_session.specs.Hearing.{IsAskedIn, HearsEnd, Hears}
 use Rattle.table_session.specs.Speaking.{SaidShort}
 use Rattle.table_session.specs.Sessions.{IsCaused, SessionOf}
+use Rattle.table_session.specs.Views.{source_view, sink_view, clock_view, ids_view}
 use Rattle.table_session.specs.declared.hearing.Asked.{Asked}
 use Rattle.table_session.proofs.Chains.{run_grows}
 use Rattle.table_session.proofs.Turns.{Before, Talking, talking_passed, talking_said}
@@ -34,7 +35,8 @@ known_grows tells fixed in_tells out_tells b k reading differ given taken left w
 module _ (tells fixed in_tells out_tells : Bool) (b : Before) (k : Knowledge) (reading : ℤ) (differ : Bool) (given taken left written : List ℕ) (at : At)
     (t : Talking tells fixed in_tells out_tells b k reading differ given taken left written at) (taken' left' : List ℕ) (at' : At) where
   pub turn_ended : (ended : End) → HearsAny in_tells taken left at (Err ended) taken' left' at'
-      → SessionOf tells b.known k fixed b.reading b.differ b.given differ given in_tells b.taken b.left taken' left' out_tells b.written written ended
+      → SessionOf tells b.known k (source_view in_tells b.taken b.left taken' left') (sink_view out_tells b.written written) (clock_view fixed b.reading)
+      (ids_view b.differ b.given differ given) ended
   turn_ended ended hears = ends_heard tells fixed in_tells out_tells b k reading differ given taken left taken' left' written at ended t (hears t.bytes t.handed t.heard)
 
   pub turn_passed : (a : Asked) (gets : Bool) → HearsAny in_tells taken left at (Ok a) taken' left' at' → ((line : Numbered) → IsAskedIn line a → gets ≡ gets_reply line) → gets ≡ false
@@ -55,7 +57,8 @@ module _ (tells fixed in_tells out_tells : Bool) (b : Before) (k : Knowledge) (r
         (moment line reply after reading' last) refl (right line h.line) steady differ' given' names (reply_text_of reply) written' refl put
 
     pub turn_short : (written' : List ℕ) (ended : End) → SaidShort out_tells written (reply_text_of reply) ended written'
-        → SessionOf tells b.known after fixed b.reading b.differ b.given differ' given' in_tells b.taken b.left taken' left' out_tells b.written written' ended
+        → SessionOf tells b.known after (source_view in_tells b.taken b.left taken' left') (sink_view out_tells b.written written') (clock_view fixed b.reading)
+        (ids_view b.differ b.given differ' given') ended
     turn_short written' ended put =
         let h = hears t.bytes t.handed t.heard in
         let line = numbered (length t.handed + 1) h.text in

@@ -6,6 +6,7 @@ pub mod Standing
 pub mod Owning
 pub mod Running
 pub mod Told
+pub mod Views
 pub mod Sessions
 pub mod Over
 pub mod Hearing

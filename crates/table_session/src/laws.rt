@@ -48,8 +48,10 @@ pub fn replies_where_nobody_else_ratifies_are_uncontested()
 /// Where each name that was found taken is among those that the caller may have put, and no name that a Taken reply tells is, no reply is Taken.
 pub fn replies_where_nobody_else_stages_are_untaken()
     ensures { (tells : Bool) (k m : Knowledge) (moments : List Moment) → Run tells k moments m
-        → ((version id : ℕ) → Contains m.takens (name.Staged version id) → Contains m.put (name.Staged version id))
-        → ((version id : ℕ) → Contains (takens_in (names_in moments)) (name.Staged version id) → ¬ (Contains m.put (name.Staged version id)))
+        → ((version id : ℕ) → Contains m.takens (name.Staged version id)
+        → Contains m.put (name.Staged version id))
+        → ((version id : ℕ) → Contains (takens_in (names_in moments)) (name.Staged version id)
+        → ¬ (Contains m.put (name.Staged version id)))
         → All IsUntaken (names_in moments) }
 {}
 
@@ -57,5 +59,6 @@ pub fn replies_where_nobody_else_stages_are_untaken()
 pub fn loaded_replies_of_a_log_have_one_text()
     ensures { (s t : State) (log : Log) (latest : ℕ) (time : ℤ) (version : ℕ) → StandsFor s log
         → StandsFor t log
-        → reply_text_of (reply.Loaded latest s time version) ≡ reply_text_of (reply.Loaded latest t time version) }
+        → reply_text_of (reply.Loaded latest s time version)
+        ≡ reply_text_of (reply.Loaded latest t time version) }
 {}
