@@ -60,7 +60,7 @@ pub fn session<T: Steps, I: Source, O: Sink, C: Clock, U: Ids>(
         let reply = answer(caller, alloc, clock, ids, &asked);
         match say(alloc, sink, &reply) {
             Ok(()) => {}
-            Err(end) => return end,
+            Err(unsaid) => return unsaid.end(),
         }
     }
     End::Memory
