@@ -1,5 +1,5 @@
 -- From a session over a new table, and the drain after it, to what a run leaves.
-use Rattle.std.proofs.Common.{◌≡◌, ◌<◌, ◌≤◌, ◌+◌, ◌⊎◌, inl, inr, ℕ, ℤ, Bool, IsTrue, List, [], ◌∷◌, ◌++◌, length, refl, sym, ◌∙◌, ap, subst, append-nil, length-append, arith}
+use Rattle.std.proofs.Common.{◌≡◌, ◌<◌, ◌≤◌, ◌+◌, ◌⊎◌, inl, inr, ℕ, Bool, IsTrue, List, [], ◌∷◌, ◌++◌, length, refl, sym, ◌∙◌, ap, subst, append-nil, length-append, arith}
 use Rattle.std.proofs.lemmas.List.Concat.{flat_map-append}
 use Rattle.commit_catalog.specs.declared.Limits.{Limits}
 use Rattle.lake_io.specs.declared.answers.End.{End}
@@ -13,17 +13,18 @@ use Rattle.table_model.specs.Holding.{terms_of, IsLater}
 use Rattle.table_model.specs.Alone.{Alone, HasAll, HasPutAll, IsAfter}
 use Rattle.table_model.proofs.Knowing.{length-log_of}
 use Rattle.table_model.proofs.Growing.{starts_refl}
-use Rattle.table_session.proofs.Wholes.{told_over, session_whole}
-use Rattle.table_session.proofs.Contests.{run_uncontested, run_all_untaken}
+use Rattle.answer_names.specs.Names.{Names}
+use Rattle.answer_names.specs.Together.{versions_in, faults_in}
+use Rattle.answer_names.specs.Whole.{IsWhole}
+use Rattle.table_session.proofs.Wholes.{told_over, session_whole, names_joined}
+use Rattle.table_session.proofs.Others.{run_uncontested, run_all_untaken}
 use Rattle.table_world.specs.Worlds.{fresh_world}
 use Rattle.table_world.specs.Starting.{IsFresh}
 use Rattle.table_world.proofs.Fresh.{fresh_put}
 use Rattle.publisher.specs.Worlds.{IsSettled, KeepsLog}
-use Rattle.table_session.specs.Moments.{Moment}
-use Rattle.table_session.specs.Naming.{versions_of}
-use Rattle.table_session.specs.Told.{versions_in, faults_in}
-use Rattle.table_session.specs.Over.{IsWhole}
+use Rattle.table_session.specs.Moments.{Moment, names_in}
 use Rattle.table_session.specs.Sessions.{SessionOf, Wrote}
+use Rattle.table_session.specs.Views.{SourceView, SinkView, ClockView, IdsView}
 use Rattle.delta_cli.specs.Endings.{IsStatusOf, IsCutShort, HasFailed, DrainsWithoutFault}
 use Rattle.delta_cli.specs.Runs.{CountsCommits, HasRun}
 use Rattle.delta_cli.specs.declared.endings.Status.{Status}
@@ -42,11 +43,11 @@ same_front front (c ∷ cs) whole is long = absurd (omega (arith, long, ap lengt
 same_log : (w x : WorldData) → StartsWith (log_of x) (log_of w) → x.records ≡ w.records → log_of x ≡ log_of w
 same_log w x s e = same_front (log_of w) s.rest (log_of x) s.is (length-log_of x ∙ ap length e ∙ sym (length-log_of w))
 
-lacks_none : (unsaid : List Moment) → unsaid ≡ [] → length (versions_in unsaid) ≡ 0
-lacks_none unsaid e = ap (λ xs. length (versions_in xs)) e
+lacks_none : (unsaid : List Moment) → unsaid ≡ [] → length (versions_in (names_in unsaid)) ≡ 0
+lacks_none unsaid e = ap (λ xs. length (versions_in (names_in xs))) e
 
 -- where a reply is lacking, the sink failed or memory ran out
-lacking_by : (wrote : List ℕ) (said unsaid : List Moment) (e : End) → Wrote wrote said unsaid e → 0 < length (versions_in unsaid) → (e ≡ end.WriteFault) ⊎ (e ≡ end.Memory)
+lacking_by : (wrote : List ℕ) (said unsaid : List Moment) (e : End) → Wrote wrote said unsaid e → 0 < length (versions_in (names_in unsaid)) → (e ≡ end.WriteFault) ⊎ (e ≡ end.Memory)
 lacking_by wrote said unsaid end.Done h some = absurd (omega (arith, some, lacks_none unsaid h.none))
 lacking_by wrote said unsaid end.ReadFault h some = absurd (omega (arith, some, lacks_none unsaid h.none))
 lacking_by wrote said unsaid end.WriteFault h some = inl refl
@@ -67,17 +68,17 @@ cut_short e status.NotEmpty s h = s
 cut_short e status.TooMuch s (inl h) = cc
 cut_short e status.TooMuch s (inr h) = cc
 
-versions_joined : (moments said unsaid : List Moment) → moments ≡ said ++ unsaid → length (versions_in said) + length (versions_in unsaid) ≡ length (versions_in moments)
+versions_joined : (moments said unsaid : List Moment) → moments ≡ said ++ unsaid → length (versions_in (names_in said)) + length (versions_in (names_in unsaid)) ≡ length (versions_in (names_in moments))
 versions_joined moments said unsaid is =
     sym
-    (ap (λ xs. length (versions_in xs)) is
-    ∙ ap length (flat_map-append (λ x. versions_of x.reply) said unsaid)
-    ∙ length-append (versions_in said) (versions_in unsaid))
+    (ap (λ xs. length (versions_in xs)) (ap names_in is ∙ names_joined said unsaid)
+    ∙ ap length (flat_map-append (λ (a : Names). a.versions) (names_in said) (names_in unsaid))
+    ∙ length-append (versions_in (names_in said)) (versions_in (names_in unsaid)))
 
-counts_commits : (wrote : List ℕ) (moments said unsaid : List Moment) (e : End) (st : Status) (log : ℕ) → moments ≡ said ++ unsaid → IsWhole moments said unsaid
-    → Wrote wrote said unsaid e → IsStatusOf e st → length (versions_in moments) ≡ log → CountsCommits (length (versions_in said)) (length (versions_in unsaid)) log st
+counts_commits : (wrote : List ℕ) (moments said unsaid : List Moment) (e : End) (st : Status) (log : ℕ) → moments ≡ said ++ unsaid → IsWhole (names_in moments) (names_in said) (names_in unsaid)
+    → Wrote wrote said unsaid e → IsStatusOf e st → length (versions_in (names_in moments)) ≡ log → CountsCommits (length (versions_in (names_in said))) (length (versions_in (names_in unsaid))) log st
 counts_commits wrote moments said unsaid e st log is whole w s all =
-    let joined : length (versions_in said) + length (versions_in unsaid) ≡ length (versions_in moments) = versions_joined moments said unsaid is in
+    let joined : length (versions_in (names_in said)) + length (versions_in (names_in unsaid)) ≡ length (versions_in (names_in moments)) = versions_joined moments said unsaid is in
     record {
       all = joined ∙ all;
       most = omega (arith, joined, whole.most);
@@ -104,28 +105,27 @@ drain_failed : (tells : Bool) (w1 w2 : WorldData) (k1 k2 : Knowledge) → IsAfte
 drain_failed tells w1 w2 k1 k2 after (inl rose) = inl (after.cause rose)
 drain_failed tells w1 w2 k1 k2 after (inr untold) = inr untold
 
-held : (limits : Limits) (files : Files) (tells : Bool) (w0 w1 w2 : WorldData) (k1 k2 : Knowledge) (fixed : Bool) (reading : ℤ) (differ : Bool) (given : List ℕ) (differ' : Bool) (given' : List ℕ)
-    (in_tells : Bool) (taken left taken' left' : List ℕ) (out_tells : Bool) (written written' : List ℕ) (e : End) (st : Status)
+held : (limits : Limits) (files : Files) (tells : Bool) (w0 w1 w2 : WorldData) (k1 k2 : Knowledge) (source : SourceView) (sink : SinkView) (clock : ClockView) (ids : IdsView) (e : End) (st : Status)
     → IsFresh limits files tells w0
-    → SessionOf tells (at_start (terms_of w0)) k1 fixed reading differ given differ' given' in_tells taken left taken' left' out_tells written written' e
+    → SessionOf tells (at_start (terms_of w0)) k1 source sink clock ids e
     → IsAfter (record { world = w0; known = at_start (terms_of w0) }) (record { world = w1; known = k1 })
     → IsAfter (record { world = w1; known = k1 }) (record { world = w2; known = k2 })
     → KeepsLog w1 w2
     → limits.versions ≤ limits.unpublished → 1 ≤ limits.attempts
     → IsStatusOf e st → (st ≡ status.StoreFault → HasFailed tells k1 k2) → (DrainsWithoutFault st → k2.faults ≡ k1.faults) → (st ≡ status.Done → IsSettled w2) → IsConsistent w2
-    → HasRun limits tells files fixed reading differ given differ' given' in_tells taken left taken' left' out_tells written written' st w2
-held limits files tells w0 w1 w2 k1 k2 fixed reading differ given differ' given' in_tells taken left taken' left' out_tells written written' e st fresh session first second keeps roomy least ends failed same settled consistent =
+    → HasRun limits tells files source sink clock ids st w2
+held limits files tells w0 w1 w2 k1 k2 source sink clock ids e st fresh session first second keeps roomy least ends failed same settled consistent =
     let start : HasAll (record { world = w0; known = at_start (terms_of w0) }) =
     subst (λ (w : WorldData). HasAll (record { world = w; known = at_start (terms_of w) })) (sym fresh.is) (new_has_all limits files tells) in
     let all : HasAll (record { world = w1; known = k1 }) = first.all start in
     let is_limits : w2.limits ≡ limits = second.later.limits ∙ first.later.limits ∙ ap (λ (w : WorldData). w.limits) fresh.is in
     let none : w0.tally ≡ 0 = ap (λ (w : WorldData). w.tally) fresh.is in
     let terms : terms_of w2 ≡ terms_of w0 = terms_same w1 w2 second.later ∙ terms_same w0 w1 first.later in
-    let there : SessionOf tells (at_start (terms_of w2)) k1 fixed reading differ given differ' given' in_tells taken left taken' left' out_tells written written' e =
-    subst (λ (t : Terms). SessionOf tells (at_start t) k1 fixed reading differ given differ' given' in_tells taken left taken' left' out_tells written written' e) (sym terms) session in
+    let there : SessionOf tells (at_start (terms_of w2)) k1 source sink clock ids e =
+    subst (λ (t : Terms). SessionOf tells (at_start t) k1 source sink clock ids e) (sym terms) session in
     let log : log_of w2 ≡ log_of w1 = same_log w1 w2 second.later.log keeps.records in
-    let count : length (versions_in there.session.moments) ≡ length (log_of w2) =
-    sym (ap length there.session.told.mine) ∙ all.mine ∙ sym (length-log_of w1) ∙ sym (ap length log) in
+    let count : length (versions_in (names_in there.session.moments)) ≡ length (log_of w2) =
+    sym (ap length there.session.told.together.mine) ∙ all.mine ∙ sym (length-log_of w1) ∙ sym (ap length log) in
     record {
       empty = fresh.empty;
       limits_are = is_limits;
@@ -143,12 +143,12 @@ held limits files tells w0 w1 w2 k1 k2 fixed reading differ given differ' given'
           let begun : HasPutAll (record { world = w0; known = at_start (terms_of w0) }) =
           subst (λ (w : WorldData). HasPutAll (record { world = w; known = at_start (terms_of w) })) (sym fresh.is) (fresh_put limits files tells (fresh.empty t)) in
           let puts : HasPutAll (record { world = w1; known = k1 }) = first.puts (ap (λ (w : WorldData). w.tells) fresh.is ∙ t) begun in
-          run_all_untaken tells (at_start (terms_of w2)) k1 (terms_of w2) there.session.moments differ given given' there.session.run refl refl puts.taken (there.names differs);
+          run_all_untaken tells (at_start (terms_of w2)) k1 there.session.moments ids.differ ids.given ids.given' there.session.run refl puts.taken (there.names differs);
       told = told_over tells (at_start (terms_of w2)) k1 there.session.moments (log_of w2) (subst (λ (log : List Commit). StartsWith log k1.seen) (all.seen ∙ sym log) (starts_refl k1.seen)) there.session.told;
       commits = counts_commits there.wrote there.session.moments there.session.said there.session.unsaid e st (length (log_of w2)) there.session.all
           (session_whole tells there.read there.wrote (at_start (terms_of w2)) k1 e there.session) there.session.wrote_is ends count;
-      faults = λ t some. rose_in_session w0 w1 (terms_of w0) k1 (faults_in there.session.moments) none first some (there.session.told.faults t);
-      silent = silent_session w0 w1 (terms_of w0) k1 (faults_in there.session.moments) none first there.session.told.no_other;
+      faults = λ t some. rose_in_session w0 w1 (terms_of w0) k1 (faults_in (names_in there.session.moments)) none first some (there.session.told.together.faults t);
+      silent = silent_session w0 w1 (terms_of w0) k1 (faults_in (names_in there.session.moments)) none first there.session.told.together.no_other;
       rise = w1.tally;
       later = second.later.tally;
       drain = λ is. drain_failed tells w1 w2 k1 k2 second (failed is);
@@ -157,19 +157,18 @@ held limits files tells w0 w1 w2 k1 k2 fixed reading differ given differ' given'
     }
 
 -- the same, where the caller is seen with its world
-pub held_by : (limits : Limits) (files : Files) (tells : Bool) (w0 w2 : WorldData) (a0 a1 a2 : Alone) (fixed : Bool) (reading : ℤ) (differ : Bool) (given : List ℕ) (differ' : Bool) (given' : List ℕ)
-    (in_tells : Bool) (taken left taken' left' : List ℕ) (out_tells : Bool) (written written' : List ℕ) (e : End) (st : Status)
+pub held_by : (limits : Limits) (files : Files) (tells : Bool) (w0 w2 : WorldData) (a0 a1 a2 : Alone) (source : SourceView) (sink : SinkView) (clock : ClockView) (ids : IdsView) (e : End) (st : Status)
     → a0.world ≡ w0 → a0.known ≡ at_start (terms_of w0) → w2 ≡ a2.world
     → IsFresh limits files tells w0
-    → SessionOf tells a0.known a1.known fixed reading differ given differ' given' in_tells taken left taken' left' out_tells written written' e
+    → SessionOf tells a0.known a1.known source sink clock ids e
     → IsAfter a0 a1 → IsAfter a1 a2 → KeepsLog a1.world a2.world
     → limits.versions ≤ limits.unpublished → 1 ≤ limits.attempts
     → IsStatusOf e st → (st ≡ status.StoreFault → HasFailed tells a1.known a2.known) → (DrainsWithoutFault st → a2.known.faults ≡ a1.known.faults) → (st ≡ status.Done → IsSettled a2.world) → IsConsistent w2
-    → HasRun limits tells files fixed reading differ given differ' given' in_tells taken left taken' left' out_tells written written' st w2
-held_by limits files tells w0 w2 a0 a1 a2 fixed reading differ given differ' given' in_tells taken left taken' left' out_tells written written' e st world_is known_is last_is fresh session first second keeps roomy least ends failed same settled consistent =
+    → HasRun limits tells files source sink clock ids st w2
+held_by limits files tells w0 w2 a0 a1 a2 source sink clock ids e st world_is known_is last_is fresh session first second keeps roomy least ends failed same settled consistent =
     let start : a0 ≡ record { world = w0; known = at_start (terms_of w0) } =
     ap (λ (w : WorldData). let a : Alone = record { world = w; known = a0.known } in a) world_is ∙ ap (λ (k : Knowledge). let a : Alone = record { world = w0; known = k } in a) known_is in
-    subst (λ (w : WorldData). HasRun limits tells files fixed reading differ given differ' given' in_tells taken left taken' left' out_tells written written' st w) (sym last_is)
-    (held limits files tells w0 a1.world a2.world a1.known a2.known fixed reading differ given differ' given' in_tells taken left taken' left' out_tells written written' e st fresh
-    (subst (λ (k : Knowledge). SessionOf tells k a1.known fixed reading differ given differ' given' in_tells taken left taken' left' out_tells written written' e) known_is session)
+    subst (λ (w : WorldData). HasRun limits tells files source sink clock ids st w) (sym last_is)
+    (held limits files tells w0 a1.world a2.world a1.known a2.known source sink clock ids e st fresh
+    (subst (λ (k : Knowledge). SessionOf tells k a1.known source sink clock ids e) known_is session)
     (subst (λ (a : Alone). IsAfter a a1) start first) second keeps roomy least ends failed same settled (subst IsConsistent last_is consistent))

@@ -1,5 +1,5 @@
 -- What a run leaves: of one for which no session was begun, and of one with a session.
-use Rattle.std.specs.Prelude.{◌≡◌, ◌<◌, ◌≤◌, ◌+◌, ◌⊎◌, ℕ, ℤ, Bool, List, length, All, IsTrue, IsSome, String, None}
+use Rattle.std.specs.Prelude.{◌≡◌, ◌<◌, ◌≤◌, ◌+◌, ◌⊎◌, ℕ, Bool, List, length, All, IsTrue, IsSome, String, None}
 use Rattle.std.specs.declared.alloc.Global.{Global}
 use Rattle.commit_catalog.specs.declared.Limits.{Limits}
 use Rattle.lake_io.specs.declared.answers.End.{End}
@@ -10,10 +10,12 @@ use Rattle.table_model.specs.Knowledge.{Knowledge, at_start}
 use Rattle.table_model.specs.Holding.{terms_of}
 use Rattle.table_world.specs.Worlds.{first_log_name}
 use Rattle.publisher.specs.Worlds.{IsSettled}
-use Rattle.table_session.specs.Told.{versions_in, faults_in}
+use Rattle.answer_names.specs.Together.{versions_in, faults_in}
+use Rattle.answer_names.specs.Others.{IsUncontested, IsUntaken}
+use Rattle.table_session.specs.Moments.{names_in}
 use Rattle.table_session.specs.Over.{ToldOver}
-use Rattle.table_session.specs.Contests.{IsUncontested, IsUntaken}
 use Rattle.table_session.specs.Sessions.{SessionOf}
+use Rattle.table_session.specs.Views.{SourceView, SinkView, ClockView, IdsView}
 use Rattle.delta_cli.specs.Words.{IsRun}
 use Rattle.delta_cli.specs.Endings.{IsStatusOf, IsCutShort, DrainsWithoutFault}
 use Rattle.delta_cli.specs.declared.endings.Status.{Status}
@@ -41,8 +43,7 @@ pub record CountsCommits (said unsaid log : ℕ) (st : Status) : Type 0 where
   pub cut : 0 < unsaid → IsCutShort st
 
 -- a session over a new table, and the world after the drain
-pub record HasRun (limits : Limits) (tells : Bool) (files : Files) (fixed : Bool) (reading : ℤ) (differ : Bool) (given : List ℕ) (differ' : Bool) (given' : List ℕ) (in_tells : Bool) (taken left taken' left' : List ℕ)
-    (out_tells : Bool) (written written' : List ℕ) (st : Status) (world : WorldData) : Type 0 where
+pub record HasRun (limits : Limits) (tells : Bool) (files : Files) (source : SourceView) (sink : SinkView) (clock : ClockView) (ids : IdsView) (st : Status) (world : WorldData) : Type 0 where
   -- the folder had no name of the log
   pub empty : IsTrue tells → first_log_name (names_of files) ≡ None
   pub limits_are : world.limits ≡ limits
@@ -51,21 +52,21 @@ pub record HasRun (limits : Limits) (tells : Bool) (files : Files) (fixed : Bool
   pub ended : End
   pub known : Knowledge
   pub seen : known.seen ≡ log_of world
-  pub session : SessionOf tells (at_start (terms_of world)) known fixed reading differ given differ' given' in_tells taken left taken' left' out_tells written written' ended
+  pub session : SessionOf tells (at_start (terms_of world)) known source sink clock ids ended
   pub status_is : IsStatusOf ended st
   -- each reply is right of the commits of this world, fronts never fall, and none is above their number
   pub told : ToldOver tells session.session.moments (log_of world)
   -- nobody else ratifies: no reply is Conflict or Contended
-  pub alone : All (λ x. IsUncontested x.reply) session.session.moments
+  pub alone : All IsUncontested (names_in session.session.moments)
   -- nobody else stages: where the ids are all told to differ, no reply is Taken
-  pub untaken : IsTrue tells → IsTrue differ' → All (λ x. IsUntaken x.reply) session.session.moments
+  pub untaken : IsTrue tells → IsTrue ids.differ' → All IsUntaken (names_in session.session.moments)
   -- each commit of the table is that of one Committed reply
-  pub commits : CountsCommits (length (versions_in session.session.said)) (length (versions_in session.session.unsaid)) (length (log_of world)) st
+  pub commits : CountsCommits (length (versions_in (names_in session.session.said))) (length (versions_in (names_in session.session.unsaid))) (length (log_of world)) st
   -- by so much had the store's count of faults risen when the session ended; a Fault reply comes only where it rose, and it rose only where
   -- one comes
   pub rise : ℕ
-  pub faults : IsTrue tells → 0 < faults_in session.session.moments → 0 < rise
-  pub silent : faults_in session.session.moments ≡ 0 → rise ≡ 0
+  pub faults : IsTrue tells → 0 < faults_in (names_in session.session.moments) → 0 < rise
+  pub silent : faults_in (names_in session.session.moments) ≡ 0 → rise ≡ 0
   -- in the drain it rose further, where that failed
   pub later : rise ≤ world.tally
   pub drain : st ≡ status.StoreFault → (rise < world.tally) ⊎ (¬ (IsTrue tells))

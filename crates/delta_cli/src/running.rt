@@ -4,6 +4,7 @@ ghost use Rattle.delta_cli.specs.Words.{IsRun};
 ghost use Rattle.delta_cli.specs.Endings.{status_in, MatchEnded};
 ghost use Rattle.delta_cli.specs.Runs.{HasRun, NotRunBy, run_limits};
 ghost use Rattle.table_session.specs.Sessions.{IsCaused};
+ghost use Rattle.table_session.specs.Views.{clock_view, ids_view, sink_view, source_view};
 ghost use Rattle.table_world.specs.Starting.{IsFresh};
 
 use crate::endings::{Ended, Status};
@@ -41,10 +42,22 @@ pub fn run<S: Store, I: Source, O: Sink, C: Clock, U: Ids>(
     ids: &mut U,
 ) -> Ended<S>
     ensures usage { status_in result ≡ status.Usage ↔ (¬ (IsRun words.now)) }
-    ensures ended { MatchEnded result (λ st back. NotRunBy words.now S.tells (S.files store) (S.faults store) (S.faults back) st) (λ st world. HasRun run_limits S.tells (S.files store) C.fixed (C.reading clock.old) (U.differ ids.old) (U.given ids.old) (U.differ ids.new) (U.given ids.new) I.tells (I.taken source.old) (I.left source.old) (I.taken source.new) (I.left source.new) O.tells (O.written sink.old) (O.written sink.new) st world) }
-    ensures untouched { MatchEnded result (λ st back. (S.files back ≡ S.files store) × (source.new ≡ source.old) × (sink.new ≡ sink.old)) (λ st world. ⊤) }
-    ensures read { IsCaused (status_in result ≡ status.ReadFault) (I.faults source.old) (I.faults source.new) }
-    ensures write { IsCaused (status_in result ≡ status.WriteFault) (O.faults sink.old) (O.faults sink.new) }
+    ensures ended { MatchEnded result
+        (λ st back. NotRunBy words.now S.tells (S.files store) (S.faults store) (S.faults back) st)
+        (λ st world. HasRun run_limits S.tells (S.files store)
+        (source_view I.tells (I.taken source.old) (I.left source.old)
+        (I.taken source.new) (I.left source.new))
+        (sink_view O.tells (O.written sink.old) (O.written sink.new))
+        (clock_view C.fixed (C.reading clock.old))
+        (ids_view (U.differ ids.old) (U.given ids.old) (U.differ ids.new) (U.given ids.new))
+        st world) }
+    ensures untouched { MatchEnded result
+        (λ st back. (S.files back ≡ S.files store) × (source.new ≡ source.old) × (sink.new ≡ sink.old))
+        (λ st world. ⊤) }
+    ensures read { IsCaused (status_in result ≡ status.ReadFault) (I.faults source.old)
+        (I.faults source.new) }
+    ensures write { IsCaused (status_in result ≡ status.WriteFault) (O.faults sink.old)
+        (O.faults sink.new) }
 {
     let Some(Command::Run) = read_words(words) else {
         return Ended::NotRun {
@@ -79,10 +92,19 @@ fn hold<S: Store, I: Source, O: Sink, C: Clock, U: Ids>(
     ids: &mut U,
 ) -> Ended<S>
     requires { IsFresh LIMITS world.files S.tells world }
-    ensures run { MatchEnded result (λ st back. ⊥) (λ st after. HasRun LIMITS S.tells world.files C.fixed (C.reading clock.old) (U.differ ids.old) (U.given ids.old) (U.differ ids.new) (U.given ids.new) I.tells (I.taken source.old) (I.left source.old) (I.taken source.new) (I.left source.new) O.tells (O.written sink.old) (O.written sink.new) st after) }
+    ensures run { MatchEnded result (λ st back. ⊥)
+        (λ st after. HasRun LIMITS S.tells world.files
+        (source_view I.tells (I.taken source.old) (I.left source.old)
+        (I.taken source.new) (I.left source.new))
+        (sink_view O.tells (O.written sink.old) (O.written sink.new))
+        (clock_view C.fixed (C.reading clock.old))
+        (ids_view (U.differ ids.old) (U.given ids.old) (U.differ ids.new) (U.given ids.new))
+        st after) }
     ensures usage { ¬ (status_in result ≡ status.Usage) }
-    ensures read { IsCaused (status_in result ≡ status.ReadFault) (I.faults source.old) (I.faults source.new) }
-    ensures write { IsCaused (status_in result ≡ status.WriteFault) (O.faults sink.old) (O.faults sink.new) }
+    ensures read { IsCaused (status_in result ≡ status.ReadFault) (I.faults source.old)
+        (I.faults source.new) }
+    ensures write { IsCaused (status_in result ≡ status.WriteFault) (O.faults sink.old)
+        (O.faults sink.new) }
 {
     let mut solo = Solo::new(world);
     let end = session(&mut solo, alloc, source, sink, clock, ids);

@@ -16,8 +16,10 @@ use table_world::Steps;
 pub(crate) fn settle<T: Steps>(caller: &mut T, alloc: Global, end: End) -> Status
     ensures end { IsStatusOf end result }
     ensures settled { result ≡ status.Done → IfSome (T.world caller.new) IsSettled }
-    ensures cause { result ≡ status.StoreFault → HasFailed T.tells (T.known caller.old) (T.known caller.new) }
-    ensures quiet { DrainsWithoutFault result → (T.known caller.new).faults ≡ (T.known caller.old).faults }
+    ensures cause { result ≡ status.StoreFault
+        → HasFailed T.tells (T.known caller.old) (T.known caller.new) }
+    ensures quiet { DrainsWithoutFault result
+        → (T.known caller.new).faults ≡ (T.known caller.old).faults }
     ensures log { TellsTurn KeepsLog (T.world caller.old) (T.world caller.new) }
     ensures after { T.after caller.old caller.new }
 {
@@ -43,8 +45,10 @@ pub(crate) fn settle<T: Steps>(caller: &mut T, alloc: Global, end: End) -> Statu
 fn settle_done<T: Steps>(caller: &mut T, alloc: Global) -> Status
     ensures end { IsStatusOf End.Done result }
     ensures settled { result ≡ status.Done → IfSome (T.world caller.new) IsSettled }
-    ensures cause { result ≡ status.StoreFault → HasFailed T.tells (T.known caller.old) (T.known caller.new) }
-    ensures quiet { DrainsWithoutFault result → (T.known caller.new).faults ≡ (T.known caller.old).faults }
+    ensures cause { result ≡ status.StoreFault
+        → HasFailed T.tells (T.known caller.old) (T.known caller.new) }
+    ensures quiet { DrainsWithoutFault result
+        → (T.known caller.new).faults ≡ (T.known caller.old).faults }
     ensures log { TellsTurn KeepsLog (T.world caller.old) (T.world caller.new) }
     ensures after { T.after caller.old caller.new }
 {

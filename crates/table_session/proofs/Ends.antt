@@ -1,5 +1,5 @@
 -- How a session ends, from what was heard and said until then.
-use Rattle.std.proofs.Common.{◌≡◌, ◌⊎◌, inl, inr, ◌+◌, ℕ, ℤ, Bool, true, IsTrue, List, [], ◌∷◌, ◌++◌, length, filter, refl, sym, ◌∙◌, ap, subst, append_assoc, append-nil, arith}
+use Rattle.std.proofs.Common.{◌≡◌, ◌+◌, ℕ, ℤ, Bool, true, IsTrue, List, [], ◌∷◌, ◌++◌, length, filter, refl, sym, ◌∙◌, ap, subst, append_assoc, append-nil, arith}
 use Rattle.std.proofs.lemmas.List.Elements.{filter-append}
 use Rattle.text_lines.specs.Lines.{Numbered, numbered, numbered_from, cut}
 use Rattle.text_lines.proofs.Numbering.{numbered-append}
@@ -15,13 +15,16 @@ use Rattle.table_session.specs.Moments.{Moment, lines_of, texts_of}
 use Rattle.table_session.specs.Asking.{gets_reply, lines_asking}
 use Rattle.table_session.specs.Running.{IsRight}
 use Rattle.table_session.specs.Hearing.{HearsLine, HearsEnd, HeardEnd}
-use Rattle.table_session.specs.Speaking.{SaidShort}
+use Rattle.table_session.specs.declared.speaking.Unsaid.{Unsaid}
+use Rattle.table_session.specs.declared.speaking.Unsaid.TheVariants as unsaid
+use Rattle.table_session.specs.Speaking.{SaidShort, end_of}
 use Rattle.table_session.specs.Sessions.{IsFirstOf, HeardMost, WroteAll, WroteShort, WroteSome, Wrote, Session, SessionOf}
 use Rattle.table_session.specs.Sessions as sessions
+use Rattle.table_session.specs.Views.{source_view, sink_view, clock_view, ids_view}
 use Rattle.table_session.specs.declared.hearing.Asked.{Asked}
 use Rattle.table_session.proofs.Chains.{run_told}
 use Rattle.writer_txn.specs.Named.{NamesApart}
-use Rattle.table_session.specs.Naming.{takens_of}
+use Rattle.table_session.specs.Naming.{named_by}
 use Rattle.table_session.proofs.Turns.{Before, Talking, run_more, lines_said, readings_more, names_more}
 
 -- the first lines have the first of the lines that ask
@@ -55,7 +58,8 @@ wrote_all tells left read handed end.Memory said h = record { one = omega arith;
 -- no further line
 pub ends_heard : (tells fixed in_tells out_tells : Bool) (b : Before) (k : Knowledge) (reading : ℤ) (differ : Bool) (given taken left taken' left' written : List ℕ) (at : At) (ended : End)
     → (t : Talking tells fixed in_tells out_tells b k reading differ given taken left written at) → HearsEnd in_tells taken left t.bytes t.handed ended taken' left'
-    → SessionOf tells b.known k fixed b.reading b.differ b.given differ given in_tells b.taken b.left taken' left' out_tells b.written written ended
+    → SessionOf tells b.known k (source_view in_tells b.taken b.left taken' left') (sink_view out_tells b.written written) (clock_view fixed b.reading)
+    (ids_view b.differ b.given differ given) ended
 ends_heard tells fixed in_tells out_tells b k reading differ given taken left taken' left' written at ended t h = record {
   read = t.bytes ++ h.new;
   wrote = texts_of t.moments;
@@ -69,9 +73,9 @@ ends_heard tells fixed in_tells out_tells b k reading differ given taken left ta
     all = sym (append-nil t.moments);
     wrote_is = wrote_all in_tells left' (t.bytes ++ h.new) t.handed ended t.moments h.heard;
   };
-  source = takes_both in_tells b.taken b.left t.bytes taken left h.new taken' left' t.source h.takes;
-  sink = t.sink;
-  clock = t.readings;
+  reads = takes_both in_tells b.taken b.left t.bytes taken left h.new taken' left' t.source h.takes;
+  writes = t.sink;
+  readings = t.readings;
   names = t.names;
   whole = nothing_left in_tells left' (t.bytes ++ h.new) t.handed ended h.heard;
 }
@@ -79,7 +83,8 @@ ends_heard tells fixed in_tells out_tells b k reading differ given taken left ta
 -- memory ran out between two lines
 pub ends_between : (tells fixed in_tells out_tells : Bool) (b : Before) (k : Knowledge) (reading : ℤ) (differ : Bool) (given taken left written : List ℕ) (at : At)
     → Talking tells fixed in_tells out_tells b k reading differ given taken left written at
-    → SessionOf tells b.known k fixed b.reading b.differ b.given differ given in_tells b.taken b.left taken left out_tells b.written written end.Memory
+    → SessionOf tells b.known k (source_view in_tells b.taken b.left taken left) (sink_view out_tells b.written written) (clock_view fixed b.reading)
+    (ids_view b.differ b.given differ given) end.Memory
 ends_between tells fixed in_tells out_tells b k reading differ given taken left written at t = record {
   read = t.bytes;
   wrote = texts_of t.moments;
@@ -93,9 +98,9 @@ ends_between tells fixed in_tells out_tells b k reading differ given taken left 
     all = sym (append-nil t.moments);
     wrote_is = record { one = omega arith; is = refl };
   };
-  source = t.source;
-  sink = t.sink;
-  clock = t.readings;
+  reads = t.source;
+  writes = t.sink;
+  readings = t.readings;
   names = t.names;
   whole = λ e w. cc;
 }
@@ -105,48 +110,43 @@ part_more tells start before after part texts e f =
     f ∙ ap (λ bs. bs ++ told tells part) e ∙ append_assoc start (told tells texts) (told tells part) ∙ ap (λ bs. start ++ bs) (sym (told-append tells texts part))
 
 -- what was written, where the last reply was not written whole
-record Short (tells : Bool) (start written' : List ℕ) (said : List Moment) (x : Moment) (ended : End) : Type 0 where
+record Short (tells : Bool) (start written' : List ℕ) (said : List Moment) (x : Moment) (why : Unsaid) : Type 0 where
   wrote : List ℕ
-  wrote_is : Wrote wrote said (x ∷ []) ended
+  wrote_is : Wrote wrote said (x ∷ []) (end_of why)
   sink : written' ≡ start ++ told tells wrote
-  kind : (ended ≡ end.WriteFault) ⊎ (ended ≡ end.Memory)
 
-short : (tells : Bool) (start written written' text : List ℕ) (said : List Moment) (x : Moment) (ended : End) → text ≡ reply_text_of x.reply
-    → written ≡ start ++ told tells (texts_of said) → SaidShort tells written text ended written' → Short tells start written' said x ended
-short tells start written written' text said x end.Done is e s = absurd s
-short tells start written written' text said x end.ReadFault is e s = absurd s
-short tells start written written' text said x end.TooMuch is e s = absurd s
-short tells start written written' text said x end.WriteFault is e s = record {
+short : (tells : Bool) (start written written' text : List ℕ) (said : List Moment) (x : Moment) (why : Unsaid) → text ≡ reply_text_of x.reply
+    → written ≡ start ++ told tells (texts_of said) → SaidShort tells written text why written' → Short tells start written' said x why
+short tells start written written' text said x unsaid.Fault is e s = record {
   wrote = texts_of said ++ s.part;
   wrote_is = record { last = x; one = refl; part = s.part; lacking = s.lacking; some = s.some; text = sym is ∙ s.all; is = refl };
   sink = part_more tells start written written' s.part (texts_of said) e s.is;
-  kind = inl refl;
 }
-short tells start written written' text said x end.Memory is e s = record {
+short tells start written written' text said x unsaid.Memory is e s = record {
   wrote = texts_of said;
   wrote_is = record { one = omega arith; is = refl };
   sink = s ∙ e;
-  kind = inr refl;
 }
 
-first_heard : (read : List ℕ) (lines : List Numbered) (ended : End) → (ended ≡ end.WriteFault) ⊎ (ended ≡ end.Memory) → IsFirstOf lines (lines_asking (cut read)) → sessions.Heard read lines ended
-first_heard read lines ended kind f =
-    let P : End → Type 0 = λ e. sessions.Heard read lines e in
-    elim kind [ inl e ↦ subst P (sym e) f | inr e ↦ subst P (sym e) f ]
+first_heard : (read : List ℕ) (lines : List Numbered) (why : Unsaid) → IsFirstOf lines (lines_asking (cut read)) → sessions.Heard read lines (end_of why)
+first_heard read lines unsaid.Fault f = f
+first_heard read lines unsaid.Memory f = f
 
-not_done : (ended : End) → (ended ≡ end.WriteFault) ⊎ (ended ≡ end.Memory) → ended ≡ end.Done → ⊥
-not_done ended kind e = elim kind [ inl w ↦ cc | inr w ↦ cc ]
+not_done : (why : Unsaid) → end_of why ≡ end.Done → ⊥
+not_done unsaid.Fault e = cc
+not_done unsaid.Memory e = cc
 
 -- the reply to a line was not written whole
 pub ends_short : (tells fixed in_tells out_tells : Bool) (b : Before) (k : Knowledge) (reading : ℤ) (differ : Bool) (given taken left taken' left' written : List ℕ) (at at' : At) (a : Asked)
     → (t : Talking tells fixed in_tells out_tells b k reading differ given taken left written at) → (h : HearsLine in_tells taken left t.bytes t.handed a taken' left' at')
     → gets_reply (numbered (length t.handed + 1) h.text) ≡ true
     → (x : Moment) → x.line ≡ numbered (length t.handed + 1) h.text → IsRight tells k x → (IsTrue fixed → x.reading ≡ reading)
-    → (differ' : Bool) (given' : List ℕ) → (IsTrue differ' → NamesApart differ given given' (takens_of x.reply) k x.after)
-    → (text written' : List ℕ) (ended : End) → text ≡ reply_text_of x.reply → SaidShort out_tells written text ended written'
-    → SessionOf tells b.known x.after fixed b.reading b.differ b.given differ' given' in_tells b.taken b.left taken' left' out_tells b.written written' ended
-ends_short tells fixed in_tells out_tells b k reading differ given taken left taken' left' written at at' a t h said x line right steady differ' given' names text written' ended is put =
-    let s = short out_tells b.written written written' text t.moments x ended is t.sink put in
+    → (differ' : Bool) (given' : List ℕ) → (IsTrue differ' → NamesApart differ given given' (named_by x.reply).takens k x.after)
+    → (text written' : List ℕ) (why : Unsaid) → text ≡ reply_text_of x.reply → SaidShort out_tells written text why written'
+    → SessionOf tells b.known x.after (source_view in_tells b.taken b.left taken' left') (sink_view out_tells b.written written') (clock_view fixed b.reading)
+    (ids_view b.differ b.given differ' given') (end_of why)
+ends_short tells fixed in_tells out_tells b k reading differ given taken left taken' left' written at at' a t h said x line right steady differ' given' names text written' why is put =
+    let s = short out_tells b.written written written' text t.moments x why is t.sink put in
     let run = run_more tells b.known k t.moments x t.run right in
     record {
       read = t.bytes ++ h.new;
@@ -155,7 +155,7 @@ ends_short tells fixed in_tells out_tells b k reading differ given taken left ta
         moments = t.moments ++ x ∷ [];
         run = run;
         told = run_told tells b.known x.after (t.moments ++ x ∷ []) run;
-        heard = first_heard (t.bytes ++ h.new) (lines_of (t.moments ++ x ∷ [])) ended s.kind
+        heard = first_heard (t.bytes ++ h.new) (lines_of (t.moments ++ x ∷ [])) why
             (let P : List Numbered → Type 0 = λ ls. IsFirstOf ls (lines_asking (cut (t.bytes ++ h.new))) in
             subst P (sym (lines_said t.handed h.text t.moments x t.lines line said))
             (first_asking (t.bytes ++ h.new) (t.handed ++ h.text ∷ []) (heard_first in_tells left' (t.bytes ++ h.new) (t.handed ++ h.text ∷ []) at' h.heard)));
@@ -164,9 +164,9 @@ ends_short tells fixed in_tells out_tells b k reading differ given taken left ta
         all = refl;
         wrote_is = s.wrote_is;
       };
-      source = takes_both in_tells b.taken b.left t.bytes taken left h.new taken' left' t.source h.takes;
-      sink = s.sink;
-      clock = λ f. readings_more b.reading t.moments x (t.readings f) (steady f ∙ t.steady f);
+      reads = takes_both in_tells b.taken b.left t.bytes taken left h.new taken' left' t.source h.takes;
+      writes = s.sink;
+      readings = λ f. readings_more b.reading t.moments x (t.readings f) (steady f ∙ t.steady f);
       names = names_more b.differ differ differ' b.given given given' b.known k t.moments x t.names names;
-      whole = λ e w. absurd (not_done ended s.kind e);
+      whole = λ e w. absurd (not_done why e);
     }

@@ -1,28 +1,22 @@
 -- What a reply says of a list of commits stands of every longer one.
-use Rattle.std.proofs.Common.{◌≡◌, ◌<◌, ◌≤◌, ◌+◌, ℕ, ℤ, Bool, List, length, take, sym, ◌∙◌, ap, subst, length-append, arith, Option, Some, None, Result, Ok, Err}
-use Rattle.std.specs.Prelude.{IsSomeAnd}
+use Rattle.std.proofs.Common.{◌≡◌, ◌<◌, ◌≤◌, ◌+◌, ℕ, Bool, List, length, take, sym, ◌∙◌, ap, subst, arith, Result, Ok, Err}
+use Rattle.std.specs.Prelude.{IfOk}
 use Rattle.std.proofs.Math.ListN.{get_or-append}
 use Rattle.std.proofs.lemmas.List.{take-append-le}
 use Rattle.reconcile.specs.Standing.{StandsFor}
 use Rattle.table_model.specs.Log.{Commit, commit_at, commit_time, history, no_commit}
-use Rattle.table_model.specs.Knowledge.{StartsWith}
+use Rattle.table_model.specs.Knowledge.{Knowledge, StartsWith}
 use Rattle.snapshot_load.specs.declared.answers.Snapshot.{Snapshot}
 use Rattle.snapshot_load.specs.declared.errors.LoadError.{LoadError}
-use Rattle.snapshot_load.specs.declared.errors.LoadError.TheVariants as load
-use Rattle.conflict_rules.specs.declared.intent.Intent.{Intent}
-use Rattle.staged_commit.specs.declared.create.Create.{Create}
-use Rattle.writer_txn.specs.declared.answers.Written.{Written}
-use Rattle.writer_txn.specs.declared.errors.WriteError.{WriteError}
-use Rattle.writer_txn.specs.Creating.{CreateStands}
-use Rattle.writer_txn.specs.Writing.{WriteStands}
 use Rattle.writer_txn.proofs.Lasting.{create_stands_longer, write_stands_longer}
 use Rattle.session_lines.specs.declared.fault.LineWhy.{LineWhy}
 use Rattle.session_lines.specs.declared.request.Request.{Request}
 use Rattle.session_lines.specs.declared.request.Request.TheVariants as request
+use Rattle.answer_names.proofs.Chains.{length_longer}
 use Rattle.table_session.specs.Moments.{Moment}
 use Rattle.table_session.specs.Asking.{asked_by}
-use Rattle.table_session.specs.Telling.{loaded_as, written_as}
-use Rattle.table_session.specs.Standing.{LoadedStands, LoadStands, StandsTo, Stands}
+use Rattle.table_session.specs.Standing.{LoadedStands, StandsTo, Stands}
+use Rattle.table_session.specs.Owning.{OwnTo, Own}
 
 take_longer : (front longer : List Commit) (s : StartsWith longer front) (n : ℕ) → n ≤ length front → take n longer ≡ take n front
 take_longer front longer s n h = ap (take n) s.is ∙ take-append-le n front s.rest h
@@ -30,10 +24,7 @@ take_longer front longer s n h = ap (take n) s.is ∙ take-append-le n front s.r
 commit_longer : (front longer : List Commit) (s : StartsWith longer front) (version : ℕ) → version < length front → commit_at longer version ≡ commit_at front version
 commit_longer front longer s version h = ap (λ log. commit_at log version) s.is ∙ get_or-append front s.rest no_commit version h
 
-pub length_longer : {A : Type 0} (front longer : List A) → StartsWith longer front → length front ≤ length longer
-length_longer front longer s = omega (arith, ap length s.is, length-append front s.rest)
-
-loaded_longer : (tells : Bool) (s : Snapshot) (front longer : List Commit) → StartsWith longer front → LoadedStands tells s front → LoadedStands tells s longer
+loaded_longer : (tells : Bool) (s : Snapshot) (front longer : List Commit) → StartsWith longer front → LoadedStands tells front s → LoadedStands tells longer s
 loaded_longer tells s front longer more h = record {
   newest = h.newest;
   ratified = omega (arith, length_longer front longer more, h.ratified);
@@ -41,32 +32,30 @@ loaded_longer tells s front longer more h = record {
   time = λ t. h.time t ∙ ap (λ (c : Commit). commit_time c.bytes) (sym (commit_longer front longer more s.version h.ratified));
 }
 
-load_longer : (tells : Bool) (o : Option (Result Snapshot LoadError)) (front longer : List Commit) → StartsWith longer front
-    → IsSomeAnd o (λ answer. LoadStands tells answer front) → IsSomeAnd o (λ answer. LoadStands tells answer longer)
-load_longer tells None front longer more h = h
-load_longer tells (Some (Ok s)) front longer more h = loaded_longer tells s front longer more h
-load_longer tells (Some (Err load.NoTable)) front longer more h = h
-load_longer tells (Some (Err (load.AfterLatest version latest))) front longer more h = h
-load_longer tells (Some (Err (load.BeforeFirst first latest))) front longer more h = h
-load_longer tells (Some (Err (load.Fault at))) front longer more h = h
-load_longer tells (Some (Err load.Memory)) front longer more h = h
-
-create_longer : (tells : Bool) (what : Create) (o : Option (Result Written WriteError)) (reading : ℤ) (last : ℕ) (front longer : List Commit) → StartsWith longer front
-    → IsSomeAnd o (λ answer. CreateStands tells what answer reading last front) → IsSomeAnd o (λ answer. CreateStands tells what answer reading last longer)
-create_longer tells what None reading last front longer more h = h
-create_longer tells what (Some answer) reading last front longer more h = create_stands_longer tells what answer reading last front longer more h
-
-write_longer : (tells : Bool) (intent : Intent) (o : Option (Result Written WriteError)) (reading : ℤ) (last : ℕ) (front longer : List Commit) → StartsWith longer front
-    → IsSomeAnd o (λ answer. WriteStands tells intent answer reading last front) → IsSomeAnd o (λ answer. WriteStands tells intent answer reading last longer)
-write_longer tells intent None reading last front longer more h = h
-write_longer tells intent (Some answer) reading last front longer more h = write_stands_longer tells intent answer reading last front longer more h
+load_longer : (tells : Bool) (answer : Result Snapshot LoadError) (front longer : List Commit) → StartsWith longer front
+    → IfOk answer (LoadedStands tells front) → IfOk answer (LoadedStands tells longer)
+load_longer tells (Ok s) front longer more h = loaded_longer tells s front longer more h
+load_longer tells (Err e) front longer more h = h
 
 longer_to : (tells : Bool) (asked : Result Request LineWhy) (x : Moment) (front longer : List Commit) → StartsWith longer front
     → StandsTo tells asked x front → StandsTo tells asked x longer
 longer_to tells (Err first) x front longer more h = h
-longer_to tells (Ok (request.Create what)) x front longer more h = create_longer tells what (written_as x.reply) x.reading x.last front longer more h
-longer_to tells (Ok (request.Write intent)) x front longer more h = write_longer tells intent (written_as x.reply) x.reading x.last front longer more h
-longer_to tells (Ok request.Load) x front longer more h = load_longer tells (loaded_as x.reply) front longer more h
+longer_to tells (Ok (request.Create what)) x front longer more h =
+    record { answer = h.answer; is = h.is; stands = create_stands_longer tells what h.answer x.reading x.last front longer more h.stands }
+longer_to tells (Ok (request.Write intent)) x front longer more h =
+    record { answer = h.answer; is = h.is; stands = write_stands_longer tells intent h.answer x.reading x.last front longer more h.stands }
+longer_to tells (Ok request.Load) x front longer more h =
+    record { answer = h.answer; is = h.is; stands = load_longer tells h.answer front longer more h.stands }
 
 pub stands_longer : (tells : Bool) (x : Moment) (front longer : List Commit) → StartsWith longer front → Stands tells x front → Stands tells x longer
 stands_longer tells x front longer more h = longer_to tells (asked_by x.line) x front longer more h
+
+stands_now : (tells : Bool) (asked : Result Request LineWhy) (k : Knowledge) (x : Moment) → OwnTo tells asked k x → StandsTo tells asked x x.after.seen
+stands_now tells (Err first) k x o = o.refuses
+stands_now tells (Ok (request.Create what)) k x o = record { answer = o.answer; is = o.is; stands = o.stands }
+stands_now tells (Ok (request.Write intent)) k x o = record { answer = o.answer; is = o.is; stands = o.stands }
+stands_now tells (Ok request.Load) k x o = record { answer = o.answer; is = o.is; stands = o.stands }
+
+-- what it says of its own moment stands of the commits that were seen then
+pub own_stands : (tells : Bool) (k : Knowledge) (x : Moment) → Own tells k x → Stands tells x x.after.seen
+own_stands tells k x o = stands_now tells (asked_by x.line) k x o

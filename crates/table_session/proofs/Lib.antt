@@ -9,4 +9,4 @@ pub mod Wholes
 pub mod Writings
 pub mod Loop
 pub mod Takens
-pub mod Contests
+pub mod Others

@@ -1,6 +1,7 @@
 -- The turns of the loop, from the clauses of the calls in it.
-use Rattle.std.proofs.Common.{◌≡◌, ◌+◌, ◌≤◌, ℕ, ℤ, Bool, true, false, IsTrue, List, ◌++◌, length, refl, sym, ◌∙◌, Result, Ok, Err}
+use Rattle.std.proofs.Common.{◌≡◌, ◌+◌, ◌≤◌, ℕ, ℤ, Bool, true, false, IsTrue, List, ◌++◌, length, refl, sym, ◌∙◌, ap, arith, Result, Ok, Err}
 use Rattle.text_lines.specs.Lines.{Numbered, numbered}
+use Rattle.lake_io.specs.Causes.{Rose}
 use Rattle.lake_io.specs.Told.{told}
 use Rattle.lake_io.specs.Reading.{At, Heard}
 use Rattle.lake_io.specs.declared.answers.End.{End}
@@ -11,12 +12,15 @@ use Rattle.table_model.specs.Knowledge.{Knowledge, IsGrown}
 use Rattle.table_model.proofs.Growing.{grows_trans}
 use Rattle.table_session.specs.Moments.{moment}
 use Rattle.writer_txn.specs.Named.{NamesApart}
-use Rattle.table_session.specs.Naming.{takens_of}
+use Rattle.table_session.specs.Naming.{named_by}
 use Rattle.table_session.specs.Asking.{gets_reply}
 use Rattle.table_session.specs.Running.{IsRight}
 use Rattle.table_session.specs.Hearing.{IsAskedIn, HearsEnd, Hears}
-use Rattle.table_session.specs.Speaking.{SaidShort}
+use Rattle.table_session.specs.declared.speaking.Unsaid.{Unsaid}
+use Rattle.table_session.specs.declared.speaking.Unsaid.TheVariants as unsaid
+use Rattle.table_session.specs.Speaking.{SaidShort, end_of}
 use Rattle.table_session.specs.Sessions.{IsCaused, SessionOf}
+use Rattle.table_session.specs.Views.{source_view, sink_view, clock_view, ids_view}
 use Rattle.table_session.specs.declared.hearing.Asked.{Asked}
 use Rattle.table_session.proofs.Chains.{run_grows}
 use Rattle.table_session.proofs.Turns.{Before, Talking, talking_passed, talking_said}
@@ -34,7 +38,8 @@ known_grows tells fixed in_tells out_tells b k reading differ given taken left w
 module _ (tells fixed in_tells out_tells : Bool) (b : Before) (k : Knowledge) (reading : ℤ) (differ : Bool) (given taken left written : List ℕ) (at : At)
     (t : Talking tells fixed in_tells out_tells b k reading differ given taken left written at) (taken' left' : List ℕ) (at' : At) where
   pub turn_ended : (ended : End) → HearsAny in_tells taken left at (Err ended) taken' left' at'
-      → SessionOf tells b.known k fixed b.reading b.differ b.given differ given in_tells b.taken b.left taken' left' out_tells b.written written ended
+      → SessionOf tells b.known k (source_view in_tells b.taken b.left taken' left') (sink_view out_tells b.written written) (clock_view fixed b.reading)
+      (ids_view b.differ b.given differ given) ended
   turn_ended ended hears = ends_heard tells fixed in_tells out_tells b k reading differ given taken left taken' left' written at ended t (hears t.bytes t.handed t.heard)
 
   pub turn_passed : (a : Asked) (gets : Bool) → HearsAny in_tells taken left at (Ok a) taken' left' at' → ((line : Numbered) → IsAskedIn line a → gets ≡ gets_reply line) → gets ≡ false
@@ -46,7 +51,7 @@ module _ (tells fixed in_tells out_tells : Bool) (b : Before) (k : Knowledge) (r
   module _ (a : Asked) (gets : Bool) (hears : HearsAny in_tells taken left at (Ok a) taken' left' at') (is : (line : Numbered) → IsAskedIn line a → gets ≡ gets_reply line) (some : gets ≡ true)
       (reply : Reply) (after : Knowledge) (reading' : ℤ) (last : ℕ) (right : (line : Numbered) → IsAskedIn line a → IsRight tells k (moment line reply after reading' last))
       (steady : IsTrue fixed → reading' ≡ reading)
-      (differ' : Bool) (given' : List ℕ) (names : IsTrue differ' → NamesApart differ given given' (takens_of reply) k after) where
+      (differ' : Bool) (given' : List ℕ) (names : IsTrue differ' → NamesApart differ given given' (named_by reply).takens k after) where
     pub turn_said : (written' : List ℕ) → written' ≡ written ++ told out_tells (reply_text_of reply) → Talking tells fixed in_tells out_tells b after reading' differ' given' taken' left' written' at'
     turn_said written' put =
         let h = hears t.bytes t.handed t.heard in
@@ -54,13 +59,14 @@ module _ (tells fixed in_tells out_tells : Bool) (b : Before) (k : Knowledge) (r
         talking_said tells fixed in_tells out_tells b k reading differ given taken left taken' left' written at at' a t h (sym (is line h.line) ∙ some)
         (moment line reply after reading' last) refl (right line h.line) steady differ' given' names (reply_text_of reply) written' refl put
 
-    pub turn_short : (written' : List ℕ) (ended : End) → SaidShort out_tells written (reply_text_of reply) ended written'
-        → SessionOf tells b.known after fixed b.reading b.differ b.given differ' given' in_tells b.taken b.left taken' left' out_tells b.written written' ended
-    turn_short written' ended put =
+    pub turn_short : (written' : List ℕ) (why : Unsaid) → SaidShort out_tells written (reply_text_of reply) why written'
+        → SessionOf tells b.known after (source_view in_tells b.taken b.left taken' left') (sink_view out_tells b.written written') (clock_view fixed b.reading)
+        (ids_view b.differ b.given differ' given') (end_of why)
+    turn_short written' why put =
         let h = hears t.bytes t.handed t.heard in
         let line = numbered (length t.handed + 1) h.text in
         ends_short tells fixed in_tells out_tells b k reading differ given taken left taken' left' written at at' a t h (sym (is line h.line) ∙ some)
-        (moment line reply after reading' last) refl (right line h.line) steady differ' given' names (reply_text_of reply) written' ended refl put
+        (moment line reply after reading' last) refl (right line h.line) steady differ' given' names (reply_text_of reply) written' why refl put
 
     pub grows_now : IsGrown k after
     grows_now = let h = hears t.bytes t.handed t.heard in (right (numbered (length t.handed + 1) h.text) h.line).grows
@@ -80,3 +86,21 @@ pub no_fault_of_sink : (tells : Bool) (taken left bytes taken' left' : List ℕ)
     → Heard tells left bytes handed at → HearsAny tells taken left at (Err ended) taken' left' at' → before ≤ now → IsCaused (ended ≡ end.WriteFault) before now
 no_fault_of_sink tells taken left bytes taken' left' handed ended at at' before now heard hears later =
     record { later = later; rose = λ e. absurd (not_of_sink tells taken left bytes taken' left' handed ended (hears bytes handed heard) e) }
+
+-- a session ends by a fault of the sink only where the reply was not written for it
+unsaid_fault : (why : Unsaid) → end_of why ≡ end.WriteFault → why ≡ unsaid.Fault
+unsaid_fault unsaid.Fault e = refl
+unsaid_fault unsaid.Memory e = cc
+
+abbrev failed : Unsaid → Result (Unit {0}) Unsaid
+failed why = Err why
+
+rose_since : (first before now : ℕ) → first ≤ before → Rose before now → Rose first now
+rose_since first before now h r = grind arith
+
+pub unsaid_caused : (why : Unsaid) (ended : End) (first before now : ℕ) → ended ≡ end_of why → first ≤ before → IsCaused (failed why ≡ failed unsaid.Fault) before now
+    → IsCaused (ended ≡ end.WriteFault) first now
+unsaid_caused why ended first before now is least h = record {
+  later = omega (arith, least, h.later);
+  rose = λ e. rose_since first before now least (h.rose (ap failed (unsaid_fault why (sym is ∙ e))));
+}

@@ -10,36 +10,20 @@ use Rattle.writer_txn.specs.declared.errors.WriteError.TheVariants as failed
 use Rattle.writer_txn.specs.Named.{taken_names}
 use Rattle.session_lines.specs.declared.fault.BadLine.{BadLine}
 use Rattle.session_lines.specs.declared.fault.BadLine.TheVariants as bad
-use Rattle.table_session.specs.Naming.{takens_of}
+use Rattle.table_session.specs.Naming.{named_by}
 use Rattle.table_session.specs.Replying.{loaded_reply, refusal_reply, written_reply}
 
-pub takens_written : (r : Result Written WriteError) → taken_names r ≡ takens_of (written_reply r)
+pub takens_written : (r : Result Written WriteError) → taken_names r ≡ (named_by (written_reply r)).takens
 takens_written (Ok (written.Committed version base time)) = refl
-takens_written (Ok (written.Already recorded latest)) = refl
-takens_written (Err failed.NoTable) = refl
-takens_written (Err (failed.Exists latest)) = refl
-takens_written (Err (failed.Broken base why)) = refl
-takens_written (Err (failed.Conflict base winner rule key vector latest)) = refl
-takens_written (Err (failed.Contended attempts latest)) = refl
-takens_written (Err (failed.Full latest)) = refl
-takens_written (Err (failed.TimeEnd base last)) = refl
-takens_written (Err (failed.TooLarge base bytes)) = refl
+takens_written (Ok answer) = refl
 takens_written (Err (failed.Taken base version id)) = refl
-takens_written (Err (failed.Fault at)) = refl
-takens_written (Err failed.Memory) = refl
+takens_written (Err e) = refl
 
-pub takens_loaded : (r : Result Snapshot LoadError) → [] ≡ takens_of (loaded_reply r)
+pub takens_loaded : (r : Result Snapshot LoadError) → [] ≡ (named_by (loaded_reply r)).takens
 takens_loaded (Ok s) = refl
-takens_loaded (Err load.NoTable) = refl
-takens_loaded (Err (load.AfterLatest version latest)) = refl
-takens_loaded (Err (load.BeforeFirst first latest)) = refl
-takens_loaded (Err (load.Fault at)) = refl
 takens_loaded (Err load.Memory) = refl
+takens_loaded (Err e) = refl
 
-pub takens_refused : (at : ℕ) (b : BadLine) → [] ≡ takens_of (refusal_reply at b)
-takens_refused at bad.Utf8 = refl
-takens_refused at bad.NotJson = refl
-takens_refused at bad.NotObject = refl
-takens_refused at bad.Op = refl
-takens_refused at (bad.Field field) = refl
+pub takens_refused : (at : ℕ) (b : BadLine) → [] ≡ (named_by (refusal_reply at b)).takens
 takens_refused at bad.Memory = refl
+takens_refused at b = refl

@@ -14,13 +14,15 @@ use Rattle.session_lines.specs.Replies.{reply_text_of}
 use Rattle.table_model.specs.Knowledge.{Knowledge}
 use Rattle.writer_txn.specs.Named.{NamesApart}
 use Rattle.writer_txn.proofs.Naming.{apart_none, apart_both, apart_at}
-use Rattle.table_session.specs.Moments.{Moment, lines_of, texts_of}
+use Rattle.answer_names.specs.Names.{Names}
+use Rattle.answer_names.specs.Together.{takens_in}
+use Rattle.table_session.specs.Moments.{Moment, lines_of, texts_of, names_in}
 use Rattle.table_session.specs.Asking.{gets_reply, lines_asking}
-use Rattle.table_session.specs.Naming.{takens_of}
-use Rattle.table_session.specs.Told.{takens_in}
+use Rattle.table_session.specs.Naming.{named_by}
 use Rattle.table_session.specs.Running.{IsRight, Run}
 use Rattle.table_session.specs.Hearing.{HearsLine}
 use Rattle.table_session.specs.declared.hearing.Asked.{Asked}
+use Rattle.table_session.proofs.Wholes.{names_joined}
 
 -- what the caller knew before the session, the clock's reading and the ids given then; what was told of source and sink then
 pub record Before : Type 0 where
@@ -47,7 +49,7 @@ pub record Talking (tells fixed in_tells out_tells : Bool) (b : Before) (k : Kno
   pub sink : written ≡ b.written ++ told out_tells (texts_of moments)
   pub readings : IsTrue fixed → All (λ x. x.reading ≡ b.reading) moments
   pub steady : IsTrue fixed → reading ≡ b.reading
-  pub names : IsTrue differ → NamesApart b.differ b.given given (takens_in moments) b.known k
+  pub names : IsTrue differ → NamesApart b.differ b.given given (takens_in (names_in moments)) b.known k
 
 -- ---- the lines that ask, with one line more
 
@@ -97,16 +99,19 @@ pub lines_said : (handed : List (List ℕ)) (text : List ℕ) (xs : List Moment)
 lines_said handed text xs x e line said =
     lines_more xs x ∙ ap (λ l. lines_of xs ++ l ∷ []) line ∙ ap (λ ls. ls ++ numbered (length handed + 1) text ∷ []) e ∙ sym (asking_said handed text said)
 
-takens_more : (xs : List Moment) (x : Moment) → takens_in (xs ++ x ∷ []) ≡ takens_in xs ++ takens_of x.reply
-takens_more xs x = flat_map-append (λ (y : Moment). takens_of y.reply) xs (x ∷ []) ∙ ap (λ t. takens_in xs ++ t) (append-nil (takens_of x.reply))
+takens_more : (xs : List Moment) (x : Moment) → takens_in (names_in (xs ++ x ∷ [])) ≡ takens_in (names_in xs) ++ (named_by x.reply).takens
+takens_more xs x =
+    ap takens_in (names_joined xs (x ∷ []))
+    ∙ flat_map-append (λ (a : Names). a.takens) (names_in xs) (names_in (x ∷ []))
+    ∙ ap (λ t. takens_in (names_in xs) ++ t) (append-nil (named_by x.reply).takens)
 
 pub names_more : (differ0 differ differ' : Bool) (given0 given given' : List ℕ) (k0 k : Knowledge) (xs : List Moment) (x : Moment)
-    → (IsTrue differ → NamesApart differ0 given0 given (takens_in xs) k0 k) → (IsTrue differ' → NamesApart differ given given' (takens_of x.reply) k x.after)
-    → IsTrue differ' → NamesApart differ0 given0 given' (takens_in (xs ++ x ∷ [])) k0 x.after
+    → (IsTrue differ → NamesApart differ0 given0 given (takens_in (names_in xs)) k0 k) → (IsTrue differ' → NamesApart differ given given' (named_by x.reply).takens k x.after)
+    → IsTrue differ' → NamesApart differ0 given0 given' (takens_in (names_in (xs ++ x ∷ []))) k0 x.after
 names_more differ0 differ differ' given0 given given' k0 k xs x before now t =
     let late = now t in
-    apart_at differ0 given0 given' (takens_in xs ++ takens_of x.reply) (takens_in (xs ++ x ∷ [])) k0 x.after (sym (takens_more xs x))
-    (apart_both differ0 differ given0 given given' (takens_in xs) (takens_of x.reply) k0 k x.after (before late.before) late)
+    apart_at differ0 given0 given' (takens_in (names_in xs) ++ (named_by x.reply).takens) (takens_in (names_in (xs ++ x ∷ []))) k0 x.after (sym (takens_more xs x))
+    (apart_both differ0 differ given0 given given' (takens_in (names_in xs)) (named_by x.reply).takens k0 k x.after (before late.before) late)
 
 -- ---- the turns of a session
 
@@ -149,7 +154,7 @@ pub talking_said : (tells fixed in_tells out_tells : Bool) (b : Before) (k : Kno
     → (t : Talking tells fixed in_tells out_tells b k reading differ given taken left written at) → (h : HearsLine in_tells taken left t.bytes t.handed a taken' left' at')
     → gets_reply (numbered (length t.handed + 1) h.text) ≡ true
     → (x : Moment) → x.line ≡ numbered (length t.handed + 1) h.text → IsRight tells k x → (IsTrue fixed → x.reading ≡ reading)
-    → (differ' : Bool) (given' : List ℕ) → (IsTrue differ' → NamesApart differ given given' (takens_of x.reply) k x.after)
+    → (differ' : Bool) (given' : List ℕ) → (IsTrue differ' → NamesApart differ given given' (named_by x.reply).takens k x.after)
     → (text written' : List ℕ) → text ≡ reply_text_of x.reply → written' ≡ written ++ told out_tells text
     → Talking tells fixed in_tells out_tells b x.after x.reading differ' given' taken' left' written' at'
 talking_said tells fixed in_tells out_tells b k reading differ given taken left taken' left' written at at' a t h said x line right steady differ' given' names text written' is put = record {

@@ -1,5 +1,5 @@
 -- A session: what was read, what was written, and how it ended.
-use Rattle.std.specs.Prelude.{◌≡◌, ◌≤◌, ◌<◌, ◌++◌, ℕ, ℤ, Bool, List, [], ◌∷◌, length, All, IsTrue}
+use Rattle.std.specs.Prelude.{◌≡◌, ◌≤◌, ◌<◌, ◌++◌, ℕ, Bool, List, [], ◌∷◌, length, All, IsTrue}
 use Rattle.text_lines.specs.Lines.{Numbered, cut, ended_lines}
 use Rattle.lake_io.specs.declared.answers.End.{End}
 use Rattle.lake_io.specs.declared.answers.End.TheVariants as end
@@ -8,10 +8,12 @@ use Rattle.lake_io.specs.Told.{Takes, told}
 use Rattle.lake_io.specs.Causes.{Rose}
 use Rattle.session_lines.specs.Replies.{reply_text_of}
 use Rattle.table_model.specs.Knowledge.{Knowledge}
-use Rattle.table_session.specs.Moments.{Moment, lines_of, texts_of}
+use Rattle.answer_names.specs.Together.{takens_in}
+use Rattle.table_session.specs.Moments.{Moment, lines_of, texts_of, names_in}
 use Rattle.table_session.specs.Asking.{lines_asking}
 use Rattle.table_session.specs.Running.{Run}
-use Rattle.table_session.specs.Told.{Told, takens_in}
+use Rattle.table_session.specs.Told.{Told}
+use Rattle.table_session.specs.Views.{SourceView, SinkView, ClockView, IdsView}
 use Rattle.writer_txn.specs.Named.{NamesApart}
 
 -- the first of a list of lines
@@ -72,15 +74,15 @@ pub record Session (tells : Bool) (read wrote : List ℕ) (k m : Knowledge) (end
 
 -- The same between a source and a sink, of which some bytes were read and written, a clock, and ids: where these are all told to differ
 -- afterwards, no name of a Taken reply was put in the session. With Done nothing is left to read.
-pub record SessionOf (tells : Bool) (k m : Knowledge) (fixed : Bool) (reading : ℤ) (differ : Bool) (given : List ℕ) (differ' : Bool) (given' : List ℕ) (in_tells : Bool) (taken left taken' left' : List ℕ) (out_tells : Bool) (written written' : List ℕ) (ended : End) : Type 0 where
+pub record SessionOf (tells : Bool) (k m : Knowledge) (source : SourceView) (sink : SinkView) (clock : ClockView) (ids : IdsView) (ended : End) : Type 0 where
   pub read : List ℕ
   pub wrote : List ℕ
   pub session : Session tells read wrote k m ended
-  pub source : Takes in_tells taken left read taken' left'
-  pub sink : written' ≡ written ++ told out_tells wrote
-  pub clock : IsTrue fixed → All (λ x. x.reading ≡ reading) session.moments
-  pub names : IsTrue differ' → NamesApart differ given given' (takens_in session.moments) k m
-  pub whole : ended ≡ end.Done → IsTrue in_tells → left' ≡ []
+  pub reads : Takes source.tells source.taken source.left read source.taken' source.left'
+  pub writes : sink.written' ≡ sink.written ++ told sink.tells wrote
+  pub readings : IsTrue clock.fixed → All (λ x. x.reading ≡ clock.reading) session.moments
+  pub names : IsTrue ids.differ' → NamesApart ids.differ ids.given ids.given' (takens_in (names_in session.moments)) k m
+  pub whole : ended ≡ end.Done → IsTrue source.tells → source.left' ≡ []
 
 -- a count that never falls, and went up where this holds
 pub record IsCaused (failed : Type 0) (before now : ℕ) : Type 0 where

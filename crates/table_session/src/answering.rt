@@ -5,7 +5,7 @@ ghost use Rattle.session_lines.specs.Requests.{IsRequest};
 ghost use Rattle.table_model.specs.Knowledge.{IsValid};
 ghost use Rattle.writer_txn.specs.Named.{NamesApart};
 ghost use Rattle.table_session.specs.Asking.{asked_by};
-ghost use Rattle.table_session.specs.Naming.{takens_of};
+ghost use Rattle.table_session.specs.Naming.{named_by};
 ghost use Rattle.table_session.specs.Moments.{moment};
 ghost use Rattle.table_session.specs.Running.{IsRight};
 ghost use Rattle.table_session.specs.Hearing.{IsAskedIn};
@@ -29,9 +29,13 @@ pub(crate) fn answer<T: Steps, C: Clock, U: Ids>(
     asked: &Asked,
 ) -> Reply
     requires { IfSome (T.known caller.old).terms (λ t. t.limits.versions ≤ t.limits.unpublished) }
-    ensures right { (line : Numbered) → IsAskedIn line asked.now → IsRight T.tells (T.known caller.old) (moment line result (T.known caller.new) (C.reading clock.new) (U.last ids.new)) }
+    ensures right { (line : Numbered) → IsAskedIn line asked.now
+        → IsRight T.tells (T.known caller.old)
+        (moment line result (T.known caller.new) (C.reading clock.new) (U.last ids.new)) }
     ensures steady { IsTrue C.fixed → C.reading clock.new ≡ C.reading clock.old }
-    ensures names { IsTrue (U.differ ids.new) → NamesApart (U.differ ids.old) (U.given ids.old) (U.given ids.new) (takens_of result) (T.known caller.old) (T.known caller.new) }
+    ensures names { IsTrue (U.differ ids.new)
+        → NamesApart (U.differ ids.old) (U.given ids.old) (U.given ids.new) (named_by result).takens
+        (T.known caller.old) (T.known caller.new) }
     ensures valid { IsValid (T.known caller.old) → IsValid (T.known caller.new) }
     ensures after { T.after caller.old caller.new }
 {
@@ -55,11 +59,16 @@ fn fulfil<T: Steps, C: Clock, U: Ids>(
     ids: &mut U,
     request: &Request,
 ) -> Reply
-    requires roomy { IfSome (T.known caller.old).terms (λ t. t.limits.versions ≤ t.limits.unpublished) }
+    requires roomy { IfSome (T.known caller.old).terms
+        (λ t. t.limits.versions ≤ t.limits.unpublished) }
     requires composes { IsRequest request.now }
-    ensures right { (line : Numbered) → asked_by line ≡ Ok request.now → IsRight T.tells (T.known caller.old) (moment line result (T.known caller.new) (C.reading clock.new) (U.last ids.new)) }
+    ensures right { (line : Numbered) → asked_by line ≡ Ok request.now
+        → IsRight T.tells (T.known caller.old)
+        (moment line result (T.known caller.new) (C.reading clock.new) (U.last ids.new)) }
     ensures steady { IsTrue C.fixed → C.reading clock.new ≡ C.reading clock.old }
-    ensures names { IsTrue (U.differ ids.new) → NamesApart (U.differ ids.old) (U.given ids.old) (U.given ids.new) (takens_of result) (T.known caller.old) (T.known caller.new) }
+    ensures names { IsTrue (U.differ ids.new)
+        → NamesApart (U.differ ids.old) (U.given ids.old) (U.given ids.new) (named_by result).takens
+        (T.known caller.old) (T.known caller.new) }
     ensures valid { IsValid (T.known caller.old) → IsValid (T.known caller.new) }
     ensures after { T.after caller.old caller.new }
 {

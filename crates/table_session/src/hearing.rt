@@ -39,8 +39,12 @@ fn is_blank(text: &[u8]) -> bool
 /// The next line of the input, or how the session ends.
 pub(crate) fn hear<I: Source>(lines: &mut Lines, source: &mut I) -> Result<Asked, End>
     requires { (lines.old.state ≡ state.Open) ⊎ (lines.old.state ≡ state.Ended) }
-    ensures heard { (bytes : List ℕ) (handed : List (List ℕ)) → Heard I.tells (I.left source.old) bytes handed lines.old → Hears I.tells (I.taken source.old) (I.left source.old) bytes handed result (I.taken source.new) (I.left source.new) lines.new }
-    ensures cause { IsCaused (result ≡ Err end.ReadFault) (I.faults source.old) (I.faults source.new) }
+    ensures heard { (bytes : List ℕ) (handed : List (List ℕ))
+        → Heard I.tells (I.left source.old) bytes handed lines.old
+        → Hears I.tells (I.taken source.old) (I.left source.old) bytes handed result
+        (I.taken source.new) (I.left source.new) lines.new }
+    ensures cause { IsCaused (result ≡ Err end.ReadFault) (I.faults source.old)
+        (I.faults source.new) }
 {
     asked_of(lines.next(source))
 }

@@ -3,6 +3,7 @@ ghost use Rattle.std.specs.Prelude.{◌≡◌, ◌≤◌, IfSome};
 ghost use Rattle.lake_io.specs.declared.answers.End.TheVariants as end;
 ghost use Rattle.table_model.specs.Knowledge.{IsGrown, IsValid};
 ghost use Rattle.table_session.specs.Sessions.{IsCaused, SessionOf};
+ghost use Rattle.table_session.specs.Views.{clock_view, ids_view, sink_view, source_view};
 
 use crate::answering::answer;
 use crate::hearing::{gets_reply, hear};
@@ -28,9 +29,17 @@ pub fn session<T: Steps, I: Source, O: Sink, C: Clock, U: Ids>(
 ) -> End
     // Publishing is not built yet, so as many commits may be unpublished as there may be versions.
     requires { IfSome (T.known caller.old).terms (λ t. t.limits.versions ≤ t.limits.unpublished) }
-    ensures session { SessionOf T.tells (T.known caller.old) (T.known caller.new) C.fixed (C.reading clock.old) (U.differ ids.old) (U.given ids.old) (U.differ ids.new) (U.given ids.new) I.tells (I.taken source.old) (I.left source.old) (I.taken source.new) (I.left source.new) O.tells (O.written sink.old) (O.written sink.new) result }
-    ensures read_cause { IsCaused (result ≡ end.ReadFault) (I.faults source.old) (I.faults source.new) }
-    ensures write_cause { IsCaused (result ≡ end.WriteFault) (O.faults sink.old) (O.faults sink.new) }
+    ensures session { SessionOf T.tells (T.known caller.old) (T.known caller.new)
+        (source_view I.tells (I.taken source.old) (I.left source.old)
+        (I.taken source.new) (I.left source.new))
+        (sink_view O.tells (O.written sink.old) (O.written sink.new))
+        (clock_view C.fixed (C.reading clock.old))
+        (ids_view (U.differ ids.old) (U.given ids.old) (U.differ ids.new) (U.given ids.new))
+        result }
+    ensures read_cause { IsCaused (result ≡ end.ReadFault) (I.faults source.old)
+        (I.faults source.new) }
+    ensures write_cause { IsCaused (result ≡ end.WriteFault) (O.faults sink.old)
+        (O.faults sink.new) }
     ensures grows { IsGrown (T.known caller.old) (T.known caller.new) }
     ensures valid { IsValid (T.known caller.new) }
     ensures after { T.after caller.old caller.new }
@@ -51,7 +60,7 @@ pub fn session<T: Steps, I: Source, O: Sink, C: Clock, U: Ids>(
         let reply = answer(caller, alloc, clock, ids, &asked);
         match say(alloc, sink, &reply) {
             Ok(()) => {}
-            Err(end) => return end,
+            Err(unsaid) => return unsaid.end(),
         }
     }
     End::Memory

@@ -3,7 +3,7 @@ use Rattle.std.specs.Prelude.{IfSome}
 use Rattle.table_model.specs.Knowledge.{Terms}
 use Rattle.table_session.proofs.Turns.{before, talking_start}
 use Rattle.table_session.proofs.Ends.{ends_between}
-use Rattle.table_session.proofs.Loop.{known_grows, turn_ended, turn_passed, turn_said, turn_short, grows_now, grows_after, no_fault_of_sink}
+use Rattle.table_session.proofs.Loop.{known_grows, turn_ended, turn_passed, turn_said, turn_short, grows_now, grows_after, no_fault_of_sink, unsaid_caused}
 use Rattle.table_session.proofs.talking.session.Goals as goal
 
 pub returns-in-Err-clause-session : goal.returns-in-Err-clause-session
@@ -41,8 +41,11 @@ lines-preserved-then-not-gets_reply g c = record {
 
 pub returns-in-Err-say-clause-session : goal.returns-in-Err-say-clause-session
 returns-in-Err-say-clause-session g c =
-    turn_short _ _ _ _ _ _ _ _ _ _ _ _ _ c.lines.invariant.talking _ _ _ c.in-Ok-hear.asked c.gets_reply.result c.in-Ok-hear.ensures.heard c.gets_reply.ensures c.if-not-gets_reply.false
-    c.answer-reply.result _ _ _ c.answer-reply.ensures.right c.answer-reply.ensures.steady _ _ c.answer-reply.ensures.names _ c.in-Err-say.end c.in-Err-say.ensures.said
+    rw c.end.ensures (turn_short _ _ _ _ _ _ _ _ _ _ _ _ _ c.lines.invariant.talking _ _ _ c.in-Ok-hear.asked c.gets_reply.result c.in-Ok-hear.ensures.heard c.gets_reply.ensures c.if-not-gets_reply.false
+    c.answer-reply.result _ _ _ c.answer-reply.ensures.right c.answer-reply.ensures.steady _ _ c.answer-reply.ensures.names _ c.in-Err-say.unsaid c.in-Err-say.ensures.said)
+
+pub returns-in-Err-say-clause-write_cause : goal.returns-in-Err-say-clause-write_cause
+returns-in-Err-say-clause-write_cause g c = unsaid_caused c.in-Err-say.unsaid _ _ _ _ c.end.ensures c.lines.invariant.wrote c.in-Err-say.ensures.cause
 
 pub returns-in-Err-say-clause-grows : goal.returns-in-Err-say-clause-grows
 returns-in-Err-say-clause-grows g c =

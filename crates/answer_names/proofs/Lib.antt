@@ -1,0 +1,4 @@
+pub mod Chains
+pub mod Gained
+pub mod Others
+pub mod Wholes
