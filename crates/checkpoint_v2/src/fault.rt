@@ -1,8 +1,8 @@
 use action_json::Why;
 use std::alloc::{AllocError, AllocFailed};
 
-/// Why a checkpoint was not read: the fault of the first faulty line, and where no line has one the first of the others, in
-/// their order.
+/// Why a checkpoint was not read: the fault of the first faulty line, and where no line has one the
+/// first of the others, in their order.
 #[derive(Debug, Drop)]
 pub enum BadCheckpoint {
     /// The first faulty line, from 1, and its first reason. There is no first line that has to be of a kind; a second

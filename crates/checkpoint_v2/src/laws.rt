@@ -22,5 +22,6 @@ pub fn a_checkpoint_has_one_table()
 
 /// The reading of any bytes is a checkpoint text of its actions, or the fault of bytes that are none.
 pub fn readings_are_checkpoint_texts_or_faults()
-    ensures { (version : ℕ) (bytes : List ℕ) → MatchResult (outcome version bytes) (IsCheckpointText bytes version) (IsRefusedFor version bytes) }
+    ensures { (version : ℕ) (bytes : List ℕ)
+        → MatchResult (outcome version bytes) (IsCheckpointText bytes version) (IsRefusedFor version bytes) }
 {}

@@ -20,9 +20,11 @@ pub(crate) struct Quick {
     digests: Vec<u64>,
 }
 
-/// The version and the actions of a checkpoint's bytes, where no line has a fault and no two actions have the same digest.
+/// The version and the actions of a checkpoint's bytes, where no line has a fault and no two
+/// actions have the same digest.
 pub(crate) fn read_quickly(alloc: Global, bytes: &[u8]) -> Result<Option<Quick>, AllocError>
-    ensures { IfOk result (λ o. IfSome o (λ q. (wanted : ℕ) → outcome wanted bytes.now ≡ checked wanted q.version q.actions.items)) }
+    ensures { IfOk result (λ o. IfSome o (λ q. (wanted : ℕ)
+        → outcome wanted bytes.now ≡ checked wanted q.version q.actions.items)) }
 {
     let Some(
         Quick {
@@ -76,7 +78,8 @@ fn take_line<'a>(
     line: &'a [u8],
 ) -> Result<bool, AllocError>
     requires { IsDigested quick.old }
-    ensures said { IfOk result (λ b. (ls : List (List ℕ)) → quick_left quick.old (line.now ∷ ls) ≡ (if b then quick_left quick.new ls else None)) }
+    ensures said { IfOk result (λ b. (ls : List (List ℕ))
+        → quick_left quick.old (line.now ∷ ls) ≡ (if b then quick_left quick.new ls else None)) }
     ensures digested { IfOk result (λ b. OnTrue b (IsDigested quick.new)) }
 {
     match read_checkpoint_line(alloc, scratch, line) {
@@ -94,7 +97,9 @@ fn take_line<'a>(
 
 /// The version of the line at hand; false where a line before it says one.
 fn take_version(quick: &mut Quick, version: u64) -> bool
-    ensures said { (ls : List (List ℕ)) → (if is_some quick.old.version then None else said_from (Some version) quick.old.actions.items ls)
+    ensures said { (ls : List (List ℕ))
+        → (if is_some quick.old.version then None
+        else said_from (Some version) quick.old.actions.items ls)
         ≡ (if result then quick_left quick.new ls else None) }
     ensures actions { quick.new.actions ≡ quick.old.actions }
     ensures digests { quick.new.digests ≡ quick.old.digests }

@@ -1,10 +1,10 @@
 //! Reading a checkpoint.
-ghost use Rattle.std.specs.Prelude.{◌≡◌, ◌↔◌, MatchOption, ⊤, ℕ, ◌+◌, ◌<◌, ◌^◌, List, [], ◌∷◌, ◌++◌, IfErr, IfOk, None, OnOk, Result, length};
+ghost use Rattle.std.specs.Prelude.{◌≡◌, ◌↔◌, ℕ, ◌+◌, ◌<◌, ◌^◌, ⊤, List, [], ◌∷◌, ◌++◌, length};
+ghost use Rattle.std.specs.Prelude.{None, Some, is_some, MatchOption, Result, IfErr, IfOk, OnOk};
 ghost use Rattle.action_types.specs.declared.actions.Action.{Action};
 ghost use Rattle.action_fields.specs.Gives.{Fails, Gives};
 ghost use Rattle.action_fields.specs.declared.kind.Kind.TheVariants as kind;
 ghost use Rattle.action_fields.specs.Canonical.{kind_of};
-ghost use Rattle.std.specs.Prelude.{Some, is_some};
 ghost use Rattle.std.specs.List.{list_any};
 ghost use Rattle.action_json.specs.Commit.{double_of, if_some, is_meta, is_protocol};
 ghost use Rattle.action_json.specs.Keys.{Knows};
@@ -34,8 +34,8 @@ pub(crate) struct Reading {
     number: u64,
 }
 
-/// The state of the actions of a checkpoint's bytes, without a time: lines ended by LF in any order, the last LF perhaps missing;
-/// blank lines, commitInfo and unknown kinds are passed over.
+/// The state of the actions of a checkpoint's bytes, without a time: lines ended by LF in any order,
+/// the last LF perhaps missing; blank lines, commitInfo and unknown kinds are passed over.
 ///
 /// `version` is the one that the checkpoint has to be of, from 0.
 pub fn read_checkpoint(alloc: Global, version: u64, bytes: &[u8]) -> Result<State, BadCheckpoint>
@@ -46,7 +46,8 @@ pub fn read_checkpoint(alloc: Global, version: u64, bytes: &[u8]) -> Result<Stat
     // The fault is one of the bytes, and the first.
     ensures fault { IfErr result (λ e. MatchOption (told e) ⊤ (IsRefusedFor version bytes.now)) }
     // Bytes with a fault are no checkpoint of this version.
-    ensures refused { IfErr result (λ e. MatchOption (told e) ⊤ (λ f. (log : Log) → ¬ (IsCheckpointOf bytes.now version log))) }
+    ensures refused { IfErr result (λ e. MatchOption (told e) ⊤ (λ f.
+        (log : Log) → ¬ (IsCheckpointOf bytes.now version log))) }
     ensures time { IfOk result (λ s. time_in s ≡ None) }
 {
     read_state(alloc, version, bytes)
@@ -56,7 +57,7 @@ fn read_state(alloc: Global, version: u64, bytes: &[u8]) -> Result<State, BadChe
     ensures { Reads result (outcome version bytes.now) }
 {
     let actions = read_actions(alloc, version, bytes)?;
-    let state = State::empty(alloc).apply(actions.as_slice())?;
+    let state = State::empty(alloc).apply_owned(actions)?;
     Ok(state)
 }
 
@@ -153,8 +154,10 @@ fn take_line<'a>(
 ) -> Result<(), BadCheckpoint>
     requires room { reading.old.number + 1 < 2 ^ 64 }
     requires knows { Knows reading.old.keys reading.old.actions.items }
-    ensures ok { OnOk result ((wanted : ℕ) (ls : List (List ℕ)) → left wanted reading.old (line.now ∷ ls) ≡ left wanted reading.new ls) }
-    ensures err { IfErr result (λ e. (wanted : ℕ) (ls : List (List ℕ)) → Fails (told e) (left wanted reading.old (line.now ∷ ls))) }
+    ensures ok { OnOk result ((wanted : ℕ) (ls : List (List ℕ))
+        → left wanted reading.old (line.now ∷ ls) ≡ left wanted reading.new ls) }
+    ensures err { IfErr result (λ e. (wanted : ℕ) (ls : List (List ℕ))
+        → Fails (told e) (left wanted reading.old (line.now ∷ ls))) }
     ensures keeps { OnOk result (Knows reading.new.keys reading.new.actions.items) }
     ensures number { OnOk result (reading.new.number ≡ reading.old.number + 1) }
 {

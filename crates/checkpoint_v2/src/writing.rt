@@ -5,8 +5,11 @@ ghost use Rattle.action_types.specs.declared.actions.Action.TheVariants as actio
 ghost use Rattle.action_fields.specs.Tokens.{Puts, data_tokens};
 ghost use Rattle.action_json.specs.Commit.{AreWritten};
 ghost use Rattle.reconcile.specs.Replay.{Log};
-ghost use Rattle.reconcile.specs.Standing.{HasTableOf, protocol_in, meta_in, txns_in, domains_in, tombstones_in, files_in};
-ghost use Rattle.checkpoint_v2.specs.Canonical.{HasProtocolAndMeta, HasValidFields, Pushes, canonical_checkpoint, meta_action, metadata_data, protocol_action, table_actions, version_data, version_line};
+ghost use Rattle.reconcile.specs.Standing.{HasTableOf, protocol_in, meta_in};
+ghost use Rattle.reconcile.specs.Standing.{txns_in, domains_in, tombstones_in, files_in};
+ghost use Rattle.checkpoint_v2.specs.Canonical.{HasProtocolAndMeta, HasValidFields, Pushes};
+ghost use Rattle.checkpoint_v2.specs.Canonical.{canonical_checkpoint, meta_action, metadata_data};
+ghost use Rattle.checkpoint_v2.specs.Canonical.{protocol_action, table_actions, version_data, version_line};
 ghost use Rattle.checkpoint_v2.specs.Table.{IsCheckpointOf};
 
 use action_fields::{push_add_line, push_line, push_remove_line};
@@ -15,9 +18,10 @@ use json::Writer;
 use reconcile::State;
 use std::alloc::{AllocError, Global};
 
-/// The canonical checkpoint of this version, from 0, of a state with a protocol and metadata: the line of the version, the
-/// protocol, the metadata, the txns by application, the domains by name, the tombstones and then the files, both in the order
-/// of files. Each line is canonical and ended by LF. Refused for want of memory alone.
+/// The canonical checkpoint of this version, from 0, of a state with a protocol and metadata: the line
+/// of the version, the protocol, the metadata, the txns by application, the domains by name, the
+/// tombstones and then the files, both in the order of files. Each line is canonical and ended by LF.
+/// Refused for want of memory alone.
 pub fn write_checkpoint(alloc: Global, version: u64, state: &State) -> Result<Vec<u8>, AllocError>
     requires { HasProtocolAndMeta state.now }
     ensures text { IfOk result (λ v. v.items ≡ canonical_checkpoint version state.now) }
@@ -107,7 +111,8 @@ fn push_action(alloc: Global, text: &mut Vec<u8>, action: &Action) -> Result<(),
 }
 
 fn push_entries(alloc: Global, text: &mut Vec<u8>, state: &State) -> Result<(), AllocError>
-    ensures { Pushes result text.old.items text.new.items (map action.Txn (txns_in state.now) ++ (map action.Domain (domains_in state.now)
+    ensures { Pushes result text.old.items text.new.items
+        (map action.Txn (txns_in state.now) ++ (map action.Domain (domains_in state.now)
         ++ (map action.Remove (tombstones_in state.now) ++ map action.Add (files_in state.now)))) }
 {
     push_txns(alloc, text, state)?;
@@ -116,7 +121,8 @@ fn push_entries(alloc: Global, text: &mut Vec<u8>, state: &State) -> Result<(), 
 }
 
 fn push_files(alloc: Global, text: &mut Vec<u8>, state: &State) -> Result<(), AllocError>
-    ensures { Pushes result text.old.items text.new.items (map action.Remove (tombstones_in state.now) ++ map action.Add (files_in state.now)) }
+    ensures { Pushes result text.old.items text.new.items
+        (map action.Remove (tombstones_in state.now) ++ map action.Add (files_in state.now)) }
 {
     push_removes(alloc, text, state)?;
     push_adds(alloc, text, state)
