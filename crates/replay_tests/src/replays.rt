@@ -359,20 +359,37 @@ fn owned_over(alloc: Global, seed: u64, base: u64, len: u64) -> Result<State, Fa
     Ok(newest.over(state)?)
 }
 
-/// Whether the state of a made list of commits, with two thirds of them read from the newest one back too,
-/// is what the plain search finds.
+/// Whether a state of these commits has the table that applying them gives, each seen from the other.
+fn as_applied(alloc: Global, state: &State, commits: &[Vec<Action>]) -> Result<bool, Fail> {
+    let applied = state_of(alloc, commits)?;
+    Ok(applied.same_table(state) && state.same_table(&applied))
+}
+
+fn applied_agrees(alloc: Global, commits: &[Vec<Action>]) -> Result<bool, Fail> {
+    let applied = state_of(alloc, commits)?;
+    as_searched(alloc, &applied, commits)
+}
+
+/// The same with two thirds of the commits read from the newest one back.
+fn newest_agrees(alloc: Global, commits: &[Vec<Action>]) -> Result<bool, Fail> {
+    let newest = newest_over(alloc, commits, commits.len() / 3)?;
+    Ok(as_searched(alloc, &newest, commits)? && as_applied(alloc, &newest, commits)?)
+}
+
+/// The same with each commit taken by value.
+fn owned_agrees(alloc: Global, commits: &[Vec<Action>], seed: u64, len: u64) -> Result<bool, Fail> {
+    let owned = owned_over(alloc, seed, len / 3, len)?;
+    Ok(as_searched(alloc, &owned, commits)? && as_applied(alloc, &owned, commits)?)
+}
+
+/// Whether the state of a made list of commits, however it is made, is what the plain search finds.
 fn made_log_agrees(alloc: Global, seed: u64, len: u64) -> Result<bool, Fail> {
     let commits = made_log(alloc, seed, len)?;
     let commits = commits.as_slice();
-    let applied = state_of(alloc, commits)?;
-    let newest = newest_over(alloc, commits, commits.len() / 3)?;
-    let owned = owned_over(alloc, seed, len / 3, len)?;
     Ok(
-        as_searched(alloc, &applied, commits)?
-            && as_searched(alloc, &newest, commits)?
-            && as_searched(alloc, &owned, commits)?
-            && newest.same_table(&applied)
-            && applied.same_table(&owned),
+        applied_agrees(alloc, commits)?
+            && newest_agrees(alloc, commits)?
+            && owned_agrees(alloc, commits, seed, len)?,
     )
 }
 
