@@ -1,7 +1,7 @@
 //! Checkpoints of a few lines.
 
 use action_json::{Why, read_commit};
-use checkpoint_v2::{BadCheckpoint, read_checkpoint, write_checkpoint};
+use checkpoint_v2::{BadCheckpoint, can_be_written, read_checkpoint, write_checkpoint};
 use reconcile::State;
 use std::alloc::Global;
 use std::test::Fail;
@@ -81,13 +81,11 @@ fn lines(alloc: Global, words: &str) -> Result<String, Fail> {
 
 /// The checkpoint of a state; empty where the state has no protocol or no metadata.
 pub fn written(alloc: Global, version: u64, state: &State) -> Result<Vec<u8>, Fail> {
-    if state.protocol().is_none() {
-        return Ok(Vec::new(alloc));
+    if can_be_written(state) {
+        Ok(write_checkpoint(alloc, version, state)?)
+    } else {
+        Ok(Vec::new(alloc))
     }
-    if state.meta().is_none() {
-        return Ok(Vec::new(alloc));
-    }
-    Ok(write_checkpoint(alloc, version, state)?)
 }
 
 /// The state of a commit text over a state.

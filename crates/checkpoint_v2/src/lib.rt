@@ -9,4 +9,4 @@ mod writing;
 
 pub use fault::BadCheckpoint;
 pub use reading::read_checkpoint;
-pub use writing::write_checkpoint;
+pub use writing::{can_be_written, write_checkpoint};

@@ -1,5 +1,5 @@
 //! Writing a checkpoint.
-ghost use Rattle.std.specs.Prelude.{◌≡◌, [], ◌∷◌, ◌++◌, IfOk, OnOk, map, true};
+ghost use Rattle.std.specs.Prelude.{◌≡◌, ◌↔◌, [], ◌∷◌, ◌++◌, IfOk, IsTrue, OnOk, is_some, map, true};
 ghost use Rattle.std.specs.Str.{is_utf8};
 ghost use Rattle.action_types.specs.declared.actions.Action.TheVariants as action;
 ghost use Rattle.action_fields.specs.Tokens.{Puts, data_tokens};
@@ -30,6 +30,31 @@ pub fn write_checkpoint(alloc: Global, version: u64, state: &State) -> Result<Ve
         → IfOk result (λ v. IsCheckpointOf v.items version log) }
 {
     write_lines(alloc, version, state)
+}
+
+/// Whether a state has a protocol and metadata, so that it can be written.
+pub fn can_be_written(state: &State) -> bool
+    ensures { IsTrue result ↔ HasProtocolAndMeta state.now }
+{
+    has_protocol(state) && has_meta(state)
+}
+
+fn has_protocol(state: &State) -> bool
+    ensures { result ≡ is_some (protocol_in state.now) }
+{
+    match state.protocol() {
+        None => false,
+        Some(_) => true,
+    }
+}
+
+fn has_meta(state: &State) -> bool
+    ensures { result ≡ is_some (meta_in state.now) }
+{
+    match state.meta() {
+        None => false,
+        Some(_) => true,
+    }
 }
 
 #[tactic(auto, unfolding(crate::specs::Canonical::canonical_checkpoint))]
