@@ -18,7 +18,7 @@ use Rattle.object_store.specs.declared.store.StoreError.TheVariants.{Failed, Mem
 
 after_counts : {A : Type 0} (r : Result A StoreError) (before after : ℕ) → before + 1 < 2 ^ 64 → after ≡ faults_after r before → CountsFault before r after
 after_counts (Ok answer) before after fits e = e
-after_counts (Err Failed) before after fits e = let rises : after ≡ before + 1 = e in (omega (arith, rises), omega (arith, rises, fits))
+after_counts (Err Failed) before after fits e = (e, omega (arith, e, fits))
 after_counts (Err Memory) before after fits e = e
 
 barred_counts : {A D : Type 0} (s : DirData D) (name : List ℕ) (r : Result A StoreError) (t : DirData D) → Barred s name r t → CountsFault s.faults r t.faults
@@ -26,7 +26,7 @@ barred_counts s name (Ok answer) t b = absurd b
 barred_counts s name (Err Failed) t b =
     let rises : t.faults ≡ s.faults + 1 = ap (λ d. d.faults) b.after in
     let fits : s.faults + 1 < 2 ^ 64 = b.counted in
-    (omega (arith, rises), omega (arith, rises, fits))
+    (rises, omega (arith, rises, fits))
 barred_counts s name (Err Memory) t b = ap (λ d. d.faults) b.1
 
 barred_last : {A D : Type 0} (s : DirData D) (name : List ℕ) (r : Result A StoreError) (t : DirData D) → Barred s name r t → IsLast s.faults → r ≡ Err Memory
@@ -78,7 +78,7 @@ list_counts did items s (Ok names) t h = h.faults
 list_counts did items s (Err Failed) t h =
     let rises : t.faults ≡ s.faults + 1 = h.count in
     let fits : s.faults + 1 < 2 ^ 64 = h.counted in
-    (omega (arith, rises), omega (arith, rises, fits))
+    (rises, omega (arith, rises, fits))
 list_counts did items s (Err Memory) t h = elim h [
   | inl same ↦ ap (λ d. d.faults) same.1
   | inr m ↦ m.count

@@ -16,11 +16,11 @@ use Rattle.object_store.specs.declared.store.StoreError.TheVariants.{Failed, Mem
 same_count : (m : MemData) (whole : Files) (n : MemData) → Passes m whole n → n.faults ≡ m.faults
 same_count m whole n p = ap (λ (d : MemData). d.faults) p.after
 
-one_fault : (m : MemData) (whole : Files) (n : MemData) → Fails m whole n → (m.faults < n.faults) × (n.faults < 2 ^ 64)
+one_fault : (m : MemData) (whole : Files) (n : MemData) → Fails m whole n → (n.faults ≡ m.faults + 1) × (n.faults < 2 ^ 64)
 one_fault m whole n f =
     let rises : n.faults ≡ m.faults + 1 = ap (λ (d : MemData). d.faults) f.after in
     let fits : m.faults + 1 < 2 ^ 64 = f.counted in
-    (omega arith, omega arith)
+    (rises, omega arith)
 
 unchanged : (m n : MemData) → n ≡ m → n.faults ≡ m.faults
 unchanged m n e = ap (λ (d : MemData). d.faults) e

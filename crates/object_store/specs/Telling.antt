@@ -63,10 +63,10 @@ DeleteAnswers tells before name (Ok gone.Absent) after = IsAbsent tells before n
 DeleteAnswers tells before name (Err Failed) after = HalfDone tells before (without_file before name) after
 DeleteAnswers tells before name (Err Memory) after = after ≡ before
 
--- the count of faults over a call: it rises where the call failed, and only there
+-- the count of faults over a call: it rises by one where the call failed, and stays else
 abbrev pub CountsFault : {A : Type 0} → ℕ → Result A StoreError → ℕ → Type 0
 CountsFault before (Ok answer) after = after ≡ before
-CountsFault before (Err Failed) after = (before < after) × (after < 2 ^ 64)
+CountsFault before (Err Failed) after = (after ≡ before + 1) × (after < 2 ^ 64)
 CountsFault before (Err Memory) after = after ≡ before
 
 -- a count of 64 bits that stands at its last value

@@ -37,7 +37,7 @@ pub enum Gone {
 /// Why a call of a store has no answer.
 #[derive(Clone, Copy, Debug, PartialEq, Eq, Error)]
 pub enum StoreError {
-    /// The store failed, and its count of faults rose.
+    /// The store failed, and its count of faults rose by one.
     #[error("the store failed")]
     Failed,
     /// Want of memory; nothing changed.
@@ -63,9 +63,9 @@ impl<T: Drop> From<AllocFailed<T>> for StoreError {
 
 /// A folder of files under names relative to it. Each call is done whole or not at all.
 ///
-/// A store has a count of faults, a number of 64 bits that never falls. A call answers `Failed` only where
-/// the count rose in it; every other answer leaves the count. Where the count stands at its last value each call
-/// answers `Memory` and does nothing.
+/// A store has a count of faults, a number of 64 bits that never falls. A call that answers `Failed` raises
+/// it by one; every other answer leaves it. Where the count stands at its last value each call answers `Memory` and
+/// does nothing.
 ///
 /// A store that tells (`tells`, the same for all values of a type) tells its files; what is said here of
 /// contents holds of such a store.

@@ -2,15 +2,17 @@
 use Rattle.std.proofs.Common.{◌≡◌, ◌<◌, ◌+◌, ◌-◌, ◌^◌, inl, inr, ℕ, ℤ, List, Bool, min, refl, sym, subst, arith}
 use Rattle.std.specs.Result.{IsErrAnd}
 use Rattle.std.specs.Prelude.{Result, Ok, Err}
-use Rattle.std.proofs.Math.Nat.{lt_irrefl}
 use Rattle.table_model.specs.declared.answers.StepFault.{StepFault}
 use Rattle.table_model.specs.declared.answers.StepFault.TheVariants.{Memory}
 use Rattle.table_model.specs.World.{WorldData}
+use Rattle.table_model.specs.Consistency.{IsConsistent}
 use Rattle.table_model.specs.Knowledge.{Knowledge, IsGrown}
 use Rattle.table_model.specs.Holding.{HoldsIn, IsLater}
 use Rattle.table_model.specs.Conditions.{MayRatify, MayPublish}
 use Rattle.table_model.proofs.Growing.{le_trans, grows_refl}
-use Rattle.table_model.proofs.Worlds.{later_trans, holds_later}
+use Rattle.table_model.specs.After.{IsAfter}
+use Rattle.table_model.proofs.Lasting.{after_trans, after_others}
+use Rattle.table_model.proofs.Worlds.{holds_later}
 use Rattle.table_model.proofs.Knowing.{valid_of}
 use Rattle.table_model.specs.declared.notes.Notes.{Notes}
 use Rattle.table_model.specs.Noted.{noted, known_of}
@@ -43,15 +45,13 @@ done_among turn r L others number w y x n m k l made h =
     let P : Knowledge → Type 0 = λ j. L y.tells j in
     let Q : Bool → Type 0 = λ t. L t (known_of w n) in
     let G : Knowledge → Type 0 = λ j. IsGrown j (known_of x m) in
+    let F : Knowledge → Type 0 = λ j. IsAfter y j x (known_of x m) in
     record {
       turned = inl (record { between = y; made = made; turned = h.turned });
       learnt = subst Q l.later.tells (subst P same h.learnt);
       grows = subst G same h.grows;
       valid = h.valid;
-      after = record {
-        later = later_trans w y x l.later h.after.later;
-        cause = λ less. (let f = h.after.cause less in let g = l.later.tally in omega (arith, f, g));
-      };
+      after = after_trans w y x (known_of w n) (known_of w n) (known_of x m) (after_others w y (known_of w n) l.later l.consistent) (subst F same h.after.after);
       known = h.known;
     }
 
@@ -71,13 +71,13 @@ refused_among {A = A} turn r L others number w x n because nothing k l cut =
     let P : Knowledge → Type 0 = λ j. L w.tells (known_of w n) (Err Memory) j in
     let Q : Result A StepFault → Type 0 = λ a. L w.tells (known_of w n) a (known_of x n) in
     let G : Knowledge → Type 0 = λ j. IsGrown (known_of w n) j in
-    let F : Knowledge → Type 0 = λ j. (known_of w n).faults < j.faults → w.tally < x.tally in
+    let F : Knowledge → Type 0 = λ j. IsAfter w (known_of w n) x j in
     record {
       turned = inr (e, cut);
       learnt = subst Q (sym e) (subst P same (nothing w.tells (known_of w n)));
       grows = subst G same (grows_refl (known_of w n));
       valid = valid_of x (known_of x n) on.consistent on.holds;
-      after = record { later = l.later; cause = subst F same (λ less. absurd (lt_irrefl _ less)) };
+      after = subst F same (after_others w x (known_of w n) l.later l.consistent);
       known = on;
     }
 
@@ -103,8 +103,8 @@ may_on P w x n k l m = subst P (sym (known_same w x n k l.later)) m
 -- one turn of the caller, as it is seen
 pub takes_turn : {A : Type 0} (turn : WorldData → Result A StepFault → WorldData → Type 0) (r : Result A StepFault) (a : Among) (w x : WorldData) (k m : Knowledge)
     (others given : List Foreign) (before number : ℕ) → (let b : Among = record { world = w; known = k; others = others; turns = before } in b) ≡ a → given ≡ others
-    → number ≡ min (before + 1) (2 ^ 64 - 1) → IsMet turn r given number w x → TakesTurn turn r a (record { world = x; known = m; others = others; turns = number })
-takes_turn turn r a w x k m others given before number view same counted met =
+    → number ≡ min (before + 1) (2 ^ 64 - 1) → IsMet turn r given number w x → IsConsistent x → HoldsIn x m → TakesTurn turn r a (record { world = x; known = m; others = others; turns = number })
+takes_turn turn r a w x k m others given before number view same counted met consistent holds =
     let P : Among → Type 0 = λ b. TakesTurn turn r b (record { world = x; known = m; others = others; turns = number }) in
     let Q : List Foreign → Type 0 = λ os. IsMet turn r os number w x in
-    subst P view (record { others = refl; counted = counted; met = subst Q same met })
+    subst P view (record { others = refl; counted = counted; met = subst Q same met; consistent = consistent; holds = holds })

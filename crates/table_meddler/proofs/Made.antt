@@ -14,6 +14,7 @@ use Rattle.commit_catalog.specs.declared.Ratify.{Ratify}
 use Rattle.object_store.specs.declared.store.Bytes.{Bytes}
 use Rattle.object_store.specs.declared.store.Put.{Put}
 use Rattle.object_store.specs.declared.store.Gone.{Gone}
+use Rattle.table_model.specs.declared.answers.Looked.{Looked}
 use Rattle.table_model.specs.declared.answers.Staged.{Staged}
 use Rattle.table_model.specs.declared.answers.StepFault.{StepFault}
 use Rattle.table_model.specs.declared.answers.StepFault.TheVariants.{Memory}
@@ -23,11 +24,11 @@ use Rattle.table_model.specs.Consistency.{IsConsistent}
 use Rattle.table_model.specs.Knowledge.{Knowledge, Triple, newcomer}
 use Rattle.table_model.specs.Holding.{HoldsIn, IsKeptIn}
 use Rattle.table_model.specs.Conditions.{triple}
-use Rattle.table_model.specs.Turns.{CommitsTurn, ListTurn, GetTurn, StageTurn, RatifyTurn, PublishTurn, ReportTurn, ClearTurn}
+use Rattle.table_model.specs.Turns.{CommitsTurn, LookupTurn, ListTurn, GetTurn, StageTurn, RatifyTurn, PublishTurn, ReportTurn, ClearTurn}
 use Rattle.table_model.proofs.Growing.{starts_refl, le_refl}
 use Rattle.table_model.proofs.Worlds.{holds-newcomer}
 use Rattle.table_model.proofs.Knowing.{length-log_of}
-use Rattle.table_model.proofs.Asking.{outcome-commits}
+use Rattle.table_model.proofs.Asking.{outcome-commits, outcome-lookup}
 use Rattle.table_model.proofs.Reading.{outcome-list, outcome-get}
 use Rattle.table_model.proofs.Ratifying.{outcome-ratify}
 use Rattle.table_model.proofs.Calls.{outcome-stage, outcome-publish, outcome-report, outcome-clear}
@@ -165,33 +166,36 @@ clear_ready w x version r less = clearable x version r.consistent (clear_on w x 
 -- Each turn leads to a later world.
 
 pub leads_commits : (w x : WorldData) (r : Result Commits StepFault) → IsConsistent w → CommitsTurn w r x → IsConsistent x → LeadsTo w x
-leads_commits w x r c t d = record { later = (outcome-commits w x newcomer r c (holds-newcomer w) t).later; consistent = d }
+leads_commits w x r c t d = record { later = (outcome-commits w x newcomer r c (holds-newcomer w) t).turn.later; consistent = d }
+
+pub leads_lookup : (version : ℕ) (w x : WorldData) (r : Result Looked StepFault) → IsConsistent w → LookupTurn version w r x → IsConsistent x → LeadsTo w x
+leads_lookup version w x r c t d = record { later = (outcome-lookup version w x newcomer r c (holds-newcomer w) t).turn.later; consistent = d }
 
 pub leads_list : (w x : WorldData) (r : Result (Vec LogName Global) StepFault) → IsConsistent w → ListTurn w r x → IsConsistent x → LeadsTo w x
-leads_list w x r c t d = record { later = (outcome-list w x newcomer r c (holds-newcomer w) t).later; consistent = d }
+leads_list w x r c t d = record { later = (outcome-list w x newcomer r c (holds-newcomer w) t).turn.later; consistent = d }
 
 pub leads_get : (n : LogName) (w x : WorldData) (r : Result Bytes StepFault) → IsConsistent w → GetTurn n w r x → IsConsistent x → LeadsTo w x
-leads_get n w x r c t d = record { later = (outcome-get n w x newcomer r c (holds-newcomer w) t).later; consistent = d }
+leads_get n w x r c t d = record { later = (outcome-get n w x newcomer r c (holds-newcomer w) t).turn.later; consistent = d }
 
 pub leads_stage : (version id : ℕ) (text : List ℕ) (w x : WorldData) (r : Result Staged StepFault) → IsConsistent w → version < 2 ^ 64 → id < 2 ^ 128
     → StageTurn version id text w r x → IsConsistent x → LeadsTo w x
 leads_stage version id text w x r c small tiny t d =
-    record { later = (outcome-stage version id text w x newcomer r c (holds-newcomer w) small tiny t).later; consistent = d }
+    record { later = (outcome-stage version id text w x newcomer r c (holds-newcomer w) small tiny t).turn.later; consistent = d }
 
 pub leads_ratify : (version id : ℕ) (time : ℤ) (w x : WorldData) (r : Result Ratify StepFault) → IsConsistent w → Ratifiable version id time w
     → RatifyTurn version id time w r x → IsConsistent x → LeadsTo w x
-leads_ratify version id time w x r c m t d = record { later = (outcome-ratify version id time w x m.0 r c m.1 m.2 t).later; consistent = d }
+leads_ratify version id time w x r c m t d = record { later = (outcome-ratify version id time w x m.0 r c m.1 m.2 t).turn.later; consistent = d }
 
 pub leads_publish : (version : ℕ) (text : List ℕ) (w x : WorldData) (r : Result Put StepFault) → IsConsistent w → version < 2 ^ 64 → Publishable version text w
     → PublishTurn version text w r x → IsConsistent x → LeadsTo w x
-leads_publish version text w x r c small m t d = record { later = (outcome-publish version text w x m.0 r c m.1 small m.2 t).later; consistent = d }
+leads_publish version text w x r c small m t d = record { later = (outcome-publish version text w x m.0 r c m.1 small m.2 t).turn.later; consistent = d }
 
 pub leads_report : (count : ℕ) (w x : WorldData) (r : Result ℕ StepFault) → IsConsistent w → Reportable count w → ReportTurn count w r x → IsConsistent x → LeadsTo w x
-leads_report count w x r c m t d = record { later = (outcome-report count w x m.0 r c m.1 m.2 t).later; consistent = d }
+leads_report count w x r c m t d = record { later = (outcome-report count w x m.0 r c m.1 m.2 t).turn.later; consistent = d }
 
 pub leads_clear : (version id : ℕ) (w x : WorldData) (r : Result Gone StepFault) → IsConsistent w → version < 2 ^ 64 → id < 2 ^ 128 → Clearable version w
     → ClearTurn version id w r x → IsConsistent x → LeadsTo w x
-leads_clear version id w x r c small tiny m t d = record { later = (outcome-clear version id w x m.0 r c m.1 small tiny m.2 t).later; consistent = d }
+leads_clear version id w x r c small tiny m t d = record { later = (outcome-clear version id w x m.0 r c m.1 small tiny m.2 t).turn.later; consistent = d }
 
 -- What becomes of a turn, by its answer: want of memory leaves the world as it was read.
 

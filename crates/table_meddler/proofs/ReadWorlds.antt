@@ -80,7 +80,7 @@ commits_read w x (Err (Fault at)) c t = absurd t
 -- a fault that a reading meets shows in the store's count
 
 pub get_shown : (n : LogName) (w x : WorldData) (e : StepFault) → GetTurn n w (Err e) x → ShowsIn w.tally x.tally e
-get_shown n w x (Fault at) t = t.1.rose
+get_shown n w x (Fault at) t = let r = t.1.rose in omega (arith, r)
 get_shown n w x Memory t = tt
 
 pub commits_shown : (w x : WorldData) (e : StepFault) → CommitsTurn w (Err e) x → ShowsIn w.tally x.tally e

@@ -14,6 +14,7 @@ use Rattle.commit_catalog.specs.declared.Ratify.{Ratify}
 use Rattle.object_store.specs.declared.store.Bytes.{Bytes}
 use Rattle.object_store.specs.declared.store.Put.{Put}
 use Rattle.object_store.specs.declared.store.Gone.{Gone}
+use Rattle.table_model.specs.declared.answers.Looked.{Looked}
 use Rattle.table_model.specs.declared.answers.Staged.{Staged}
 use Rattle.table_model.specs.declared.answers.StepFault.{StepFault}
 use Rattle.table_model.specs.declared.answers.StepFault.TheVariants.{Fault, Memory}
@@ -21,7 +22,7 @@ use Rattle.table_model.specs.Log.{commit_at, commit_time, IsNextCommit}
 use Rattle.table_model.specs.Files.{file_at}
 use Rattle.table_model.specs.World.{WorldData, stands, log_of}
 use Rattle.table_model.specs.Consistency.{IsConsistent}
-use Rattle.table_model.specs.Turns.{CommitsTurn, ListTurn, GetTurn, StageTurn, RatifyTurn, PublishTurn, ReportTurn, ClearTurn}
+use Rattle.table_model.specs.Turns.{CommitsTurn, LookupTurn, ListTurn, GetTurn, StageTurn, RatifyTurn, PublishTurn, ReportTurn, ClearTurn}
 use Rattle.table_meddler.specs.declared.foreign.Foreign.{Foreign}
 use Rattle.table_meddler.specs.declared.foreign.Turn.{Turn}
 use Rattle.table_meddler.specs.declared.foreign.Turn.TheVariants as turn
@@ -51,6 +52,7 @@ pub record IsCommitOf (w : WorldData) (version : ℕ) (text : List ℕ) : Type 0
 -- the condition of a turn: that some caller may make it who knows all that holds in the world
 abbrev pub MayMake : Turn → WorldData → Type 0
 MayMake turn.Commits w = Unit {0}
+MayMake (turn.Lookup version) w = Unit {0}
 MayMake turn.List w = Unit {0}
 MayMake (turn.Get n) w = IsSome (name_text n)
 MayMake (turn.Stage version id bytes) w = Unit {0}
@@ -70,6 +72,7 @@ IsAnswered (Err Memory) = ⊥
 -- what is done whatever the store answers; want of memory is none of its answers
 abbrev pub Makes : Turn → WorldData → WorldData → Type 0
 Makes turn.Commits w x = (r : Result Commits StepFault) × IsAnswered r × CommitsTurn w r x
+Makes (turn.Lookup version) w x = (r : Result Looked StepFault) × IsAnswered r × LookupTurn version w r x
 Makes turn.List w x = (r : Result (Vec LogName Global) StepFault) × IsAnswered r × ListTurn w r x
 Makes (turn.Get n) w x = (r : Result Bytes StepFault) × IsAnswered r × GetTurn n w r x
 Makes (turn.Stage version id bytes) w x = (r : Result Staged StepFault) × IsAnswered r × StageTurn version id bytes.items w r x

@@ -5,6 +5,10 @@ use log_names::LogName;
 pub enum Turn {
     /// The catalogue now.
     Commits,
+    /// The commit of a version, and how many there are.
+    Lookup {
+        version: u64,
+    },
     /// The names of the log.
     List,
     /// The file of a name; only of a name that has a text.

@@ -34,6 +34,15 @@ fn commits<S: Store>(world: &mut World<S>) -> Result<Fate, AllocError>
     made(world.commits())
 }
 
+/// Another caller looks for a version.
+fn lookup<S: Store>(world: &mut World<S>, version: u64) -> Result<Fate, AllocError>
+    requires consistent { IsConsistent world.old }
+    ensures meets { MatchResult result (λ fate. Meets (turn.Lookup version) fate world.old world.new) (λ _. IsRead world.old world.new) }
+    ensures leads { LeadsTo world.old world.new }
+{
+    made(world.lookup(version))
+}
+
 /// Another caller lists the folder.
 fn list<S: Store>(world: &mut World<S>, alloc: Global) -> Result<Fate, AllocError>
     requires consistent { IsConsistent world.old }
@@ -155,6 +164,7 @@ fn make<S: Store>(world: &mut World<S>, alloc: Global, turn: &Turn) -> Result<Fa
 {
     match turn {
         Turn::Commits => commits(world),
+        Turn::Lookup { version } => lookup(world, *version),
         Turn::List => list(world, alloc),
         Turn::Get { name } => get(world, alloc, *name),
         Turn::Stage { version, id, bytes } => stage(world, alloc, *version, *id, bytes),

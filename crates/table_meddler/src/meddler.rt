@@ -3,10 +3,10 @@ ghost use Rattle.log_names.specs.Texts.{name_text};
 ghost use Rattle.table_model.specs.World.{WorldData};
 ghost use Rattle.table_model.specs.Consistency.{IsConsistent};
 ghost use Rattle.table_model.specs.Knowledge.{IsGrown, IsValid, at_start};
-ghost use Rattle.table_model.specs.Holding.{terms_of};
-ghost use Rattle.table_model.specs.Turns.{TellsTurn, CommitsTurn, ListTurn, GetTurn, StageTurn, RatifyTurn, PublishTurn, ReportTurn, ClearTurn};
+ghost use Rattle.table_model.specs.Holding.{terms_of, HoldsInTold};
+ghost use Rattle.table_model.specs.Turns.{TellsTurn, CommitsTurn, LookupTurn, ListTurn, GetTurn, StageTurn, RatifyTurn, PublishTurn, ReportTurn, ClearTurn};
 ghost use Rattle.table_model.specs.Conditions.{MayRatify, MayPublish, MayReport, MayClear};
-ghost use Rattle.table_model.specs.Learning.{LearnsCommits, LearnsList, LearnsGet, LearnsStage, LearnsRatify, LearnsPublish, LearnsReport, LearnsClear};
+ghost use Rattle.table_model.specs.Learning.{LearnsCommits, LearnsLookup, LearnsList, LearnsGet, LearnsStage, LearnsRatify, LearnsPublish, LearnsReport, LearnsClear};
 ghost use Rattle.table_meddler.specs.Among.{IsAmongAfter, TakesTurn};
 ghost use Rattle.table_meddler.specs.Lasting.{among_refl, among_trans};
 
@@ -17,7 +17,7 @@ use log_names::LogName;
 use object_store::{Bytes, Gone, Put, Store};
 use std::alloc::Global;
 use std::marker::Model;
-use table_model::{Notes, Staged, StepFault, Steps};
+use table_model::{Looked, Notes, Staged, StepFault, Steps};
 use table_world::World;
 
 /// One caller of a world in which others act between its turns: theirs are those of a list, each made before the
@@ -100,6 +100,7 @@ impl<S: Store> Steps for Meddler<S> {
         ensures learns { LearnsCommits S.tells self.old.known result self.new.known }
         ensures grows { IsGrown self.old.known self.new.known }
         ensures valid { IsValid self.new.known }
+        ensures told { HoldsInTold None self.new.known }
         ensures after { IsAmongAfter self.old self.new }
     {
         self.turns = self.turns.saturating_add(1);
@@ -112,12 +113,33 @@ impl<S: Store> Steps for Meddler<S> {
         )
     }
 
+    fn lookup(&mut self, alloc: Global, version: u64) -> Result<Looked, StepFault>
+        ensures among { TakesTurn (LookupTurn version) result self.old self.new }
+        ensures turn { TellsTurn (λ w x. LookupTurn version w result x) None None }
+        ensures learns { LearnsLookup S.tells version self.old.known result self.new.known }
+        ensures grows { IsGrown self.old.known self.new.known }
+        ensures valid { IsValid self.new.known }
+        ensures told { HoldsInTold None self.new.known }
+        ensures after { IsAmongAfter self.old self.new }
+    {
+        self.turns = self.turns.saturating_add(1);
+        turns::lookup(
+            &mut self.world,
+            &mut self.notes,
+            self.others.as_slice(),
+            self.turns,
+            alloc,
+            version,
+        )
+    }
+
     fn list(&mut self, alloc: Global) -> Result<Vec<LogName>, StepFault>
         ensures among { TakesTurn ListTurn result self.old self.new }
         ensures turn { TellsTurn (λ w x. ListTurn w result x) None None }
         ensures learns { LearnsList S.tells self.old.known result self.new.known }
         ensures grows { IsGrown self.old.known self.new.known }
         ensures valid { IsValid self.new.known }
+        ensures told { HoldsInTold None self.new.known }
         ensures after { IsAmongAfter self.old self.new }
     {
         self.turns = self.turns.saturating_add(1);
@@ -137,6 +159,7 @@ impl<S: Store> Steps for Meddler<S> {
         ensures learns { LearnsGet S.tells name self.old.known result self.new.known }
         ensures grows { IsGrown self.old.known self.new.known }
         ensures valid { IsValid self.new.known }
+        ensures told { HoldsInTold None self.new.known }
         ensures after { IsAmongAfter self.old self.new }
     {
         self.turns = self.turns.saturating_add(1);
@@ -162,6 +185,7 @@ impl<S: Store> Steps for Meddler<S> {
         ensures learns { LearnsStage version id bytes.now self.old.known result self.new.known }
         ensures grows { IsGrown self.old.known self.new.known }
         ensures valid { IsValid self.new.known }
+        ensures told { HoldsInTold None self.new.known }
         ensures after { IsAmongAfter self.old self.new }
     {
         self.turns = self.turns.saturating_add(1);
@@ -190,6 +214,7 @@ impl<S: Store> Steps for Meddler<S> {
         ensures learns { LearnsRatify S.tells version id self.old.known result self.new.known }
         ensures grows { IsGrown self.old.known self.new.known }
         ensures valid { IsValid self.new.known }
+        ensures told { HoldsInTold None self.new.known }
         ensures after { IsAmongAfter self.old self.new }
     {
         self.turns = self.turns.saturating_add(1);
@@ -212,6 +237,7 @@ impl<S: Store> Steps for Meddler<S> {
         ensures learns { LearnsPublish version self.old.known result self.new.known }
         ensures grows { IsGrown self.old.known self.new.known }
         ensures valid { IsValid self.new.known }
+        ensures told { HoldsInTold None self.new.known }
         ensures after { IsAmongAfter self.old self.new }
     {
         self.turns = self.turns.saturating_add(1);
@@ -233,6 +259,7 @@ impl<S: Store> Steps for Meddler<S> {
         ensures learns { LearnsReport count self.old.known result self.new.known }
         ensures grows { IsGrown self.old.known self.new.known }
         ensures valid { IsValid self.new.known }
+        ensures told { HoldsInTold None self.new.known }
         ensures after { IsAmongAfter self.old self.new }
     {
         self.turns = self.turns.saturating_add(1);
@@ -253,6 +280,7 @@ impl<S: Store> Steps for Meddler<S> {
         ensures learns { LearnsClear version id self.old.known result self.new.known }
         ensures grows { IsGrown self.old.known self.new.known }
         ensures valid { IsValid self.new.known }
+        ensures told { HoldsInTold None self.new.known }
         ensures after { IsAmongAfter self.old self.new }
     {
         self.turns = self.turns.saturating_add(1);

@@ -2,9 +2,9 @@
 
 ghost use Rattle.std.specs.Prelude.{IsSome};
 ghost use Rattle.log_names.specs.Texts.{name_text};
-ghost use Rattle.table_model.specs.Turns.{CommitsTurn, ListTurn, GetTurn, StageTurn, RatifyTurn, PublishTurn, ReportTurn, ClearTurn};
+ghost use Rattle.table_model.specs.Turns.{CommitsTurn, LookupTurn, ListTurn, GetTurn, StageTurn, RatifyTurn, PublishTurn, ReportTurn, ClearTurn};
 ghost use Rattle.table_model.specs.Conditions.{MayRatify, MayPublish, MayReport, MayClear};
-ghost use Rattle.table_model.specs.Learning.{LearnsCommits, LearnsList, LearnsGet, LearnsStage, LearnsRatify, LearnsPublish, LearnsReport, LearnsClear};
+ghost use Rattle.table_model.specs.Learning.{LearnsCommits, LearnsLookup, LearnsList, LearnsGet, LearnsStage, LearnsRatify, LearnsPublish, LearnsReport, LearnsClear};
 ghost use Rattle.table_model.specs.Noted.{known_of};
 ghost use Rattle.table_world.specs.Done.{IsKnownIn};
 ghost use Rattle.table_meddler.specs.Among.{HasDoneAmong, IsMet};
@@ -15,7 +15,7 @@ use commit_catalog::{Commits, Ratify};
 use log_names::LogName;
 use object_store::{Bytes, Gone, Put, Store};
 use std::alloc::Global;
-use table_model::{Notes, Staged, StepFault};
+use table_model::{Looked, Notes, Staged, StepFault};
 use table_world::{World, turns};
 
 /// The catalogue now.
@@ -31,6 +31,22 @@ pub(crate) fn commits<S: Store>(
 {
     meddle(world, alloc, others, number)?;
     turns::commits(world, notes)
+}
+
+/// The ratified commit of a version, if there is one, and the number of commits.
+pub(crate) fn lookup<S: Store>(
+    world: &mut World<S>,
+    notes: &mut Notes,
+    others: &[Foreign],
+    number: u64,
+    alloc: Global,
+    version: u64,
+) -> Result<Looked, StepFault>
+    requires known { IsKnownIn world.old notes.old }
+    ensures { HasDoneAmong (IsMet (LookupTurn version) result others.now number world.old world.new) (LearnsLookup world.old.tells version (known_of world.old notes.old) result (known_of world.new notes.new)) world.old notes.old world.new notes.new }
+{
+    meddle(world, alloc, others, number)?;
+    turns::lookup(world, notes, version)
 }
 
 /// The names of the log in the folder.

@@ -1,9 +1,10 @@
 -- The turn that asks the catalogue.
 use Rattle.std.proofs.Common.{◌≡◌, ◌≢◌, ◌<◌, ◌≤◌, ◌+◌, ◌-◌, ◌^◌, ◌&&◌, ◌==◌, ◌⊎◌, inl, inr, ℕ, zero, suc, Bool, true, false, cond, List, [], ◌∷◌, ◌++◌, length, take, drop, refl, sym, ◌∙◌, ap, subst, arith, rules, Option, Some, None, IsTrue, length-append, append-nil, max, unwrap_or}
-use Rattle.std.specs.Prelude.{All, Contains, IfSome, is_some, filter_map, Result, Ok, Err, ℤ, slice_index_or, Vec, nat_lt}
+use Rattle.std.specs.Prelude.{All, Contains, IfSome, is_some, filter_map, Result, Ok, Err, ℤ, slice_index_or, slice_get, option_map, Vec, nat_lt}
 use Rattle.std.specs.declared.alloc.Global.{Global}
 use Rattle.std.proofs.lemmas.List.{get_or-drop, length-drop}
 use Rattle.std.proofs.lemmas.List.Elements.{All-weaker, All-push, All-append, All-contains}
+use Rattle.std.proofs.lemmas.Option.{slice_get_past, slice_get-get_or}
 use Rattle.std.proofs.lemmas.Bool.{lt-ltb, eq-eqb, ltb-true, eqb-true}
 use Rattle.log_names.specs.declared.LogName.{LogName}
 use Rattle.log_names.specs.declared.LogName.TheVariants as name
@@ -11,35 +12,36 @@ use Rattle.log_names.specs.Texts.{name_text, published_text, staged_text, checkp
 use Rattle.commit_catalog.specs.declared.Commits.{Commits}
 use Rattle.commit_catalog.specs.declared.Ratified.{Ratified}
 use Rattle.commit_catalog.specs.declared.Entry.{Entry}
-use Rattle.commit_catalog.specs.Records.{ratified, ratified_from, staged_of}
+use Rattle.commit_catalog.specs.Records.{ratified, ratified_at, ratified_from, staged_of}
 use Rattle.commit_catalog.specs.Ratifying.{TellsCommits}
 use Rattle.object_store.specs.declared.store.Bytes.{Bytes}
 use Rattle.object_store.specs.declared.store.Bytes.TheVariants as bytes
 use Rattle.table_model.specs.declared.answers.Spot.{Spot}
 use Rattle.table_model.specs.declared.answers.Spot.TheVariants as spot
+use Rattle.table_model.specs.declared.answers.Looked.{Looked}
 use Rattle.table_model.specs.declared.answers.StepFault.{StepFault}
 use Rattle.table_model.specs.declared.answers.StepFault.TheVariants.{Fault, Memory}
 use Rattle.table_model.specs.declared.known.Mark.{Mark}
 use Rattle.table_model.specs.Log.{Commit, commit_at, commit_time}
 use Rattle.table_model.specs.Files.{file_at}
-use Rattle.table_model.specs.World.{WorldData, stands, log_of, entry_at, file_of_version, either_file}
+use Rattle.table_model.specs.World.{WorldData, stands, log_of, entry_at, no_entry, file_of_version, either_file}
 use Rattle.table_model.specs.Consistency.{IsSized, IsFiled, IsConsistent}
-use Rattle.table_model.specs.Turns.{CommitsTurn, ListTurn, GetTurn, Lists, Finds, IsFailed, listing, is_log_name}
+use Rattle.table_model.specs.Turns.{CommitsTurn, LookupTurn, Looks, ListTurn, GetTurn, Lists, Finds, IsFailed, listing, is_log_name}
 use Rattle.table_model.specs.Knowledge.{Knowledge, Terms, Triple, StartsWith, IsGrown}
 use Rattle.table_model.specs.Holding.{HoldsIn, IsLater, IsKeptIn, terms_of}
 use Rattle.table_model.specs.Conditions.{triple}
-use Rattle.table_model.specs.Learning.{LearnsCommits, CommitsLearnt, IsRatifiedAs, no_ratified, SeesLog, LearnsList, ListLearnt, ShowsPublished, mark_of, LearnsGet, WholeLearnt, AbsentLearnt, kept_after, IsDue, IsShown, IsMissing, fault_noted}
-use Rattle.table_model.specs.Learned.{commits_learned, list_learned, get_learned, shown_in, published_by, published_where_gone}
-use Rattle.table_model.specs.Outcome.{Outcome}
+use Rattle.table_model.specs.Learning.{LearnsCommits, CommitsLearnt, LearnsLookup, LookupLearnt, IsFoundAs, IsRatifiedAs, no_ratified, SeesLog, LearnsList, ListLearnt, ShowsPublished, mark_of, LearnsGet, WholeLearnt, AbsentLearnt, kept_after, IsDue, IsShown, IsMissing, fault_noted}
+use Rattle.table_model.specs.Learned.{commits_learned, lookup_learned, list_learned, get_learned, shown_in, published_by, published_where_gone}
+use Rattle.table_model.specs.Alone.{LoneOutcome}
 use Rattle.table_model.proofs.Growing.{starts_refl, starts_more, starts_trans, le_refl, le_trans, grows_refl}
 use Rattle.table_model.proofs.Worlds.{later_refl, later_trans, later_tally, consistent_tally, holds_later, below_or_above, bytes_of, is_there}
 use Rattle.table_model.proofs.Knowing.{seen_length, length-log_of, seen_commit, all_seen, log_commit, commit_file}
 use Rattle.table_model.proofs.Outcomes.{outcome-quiet, outcome-refused, outcome-failed, below_max, marks_more, mine_more}
 
 -- a store that failed a read
-pub outcome-failed_read : (w x : WorldData) (k : Knowledge) (at : Spot) → IsConsistent w → HoldsIn w k → IsFailed w x → Outcome w x k (fault_noted at k)
+pub outcome-failed_read : (w x : WorldData) (k : Knowledge) (at : Spot) → IsConsistent w → HoldsIn w k → IsFailed w x → LoneOutcome w x k (fault_noted at k)
 outcome-failed_read w x k at c h f =
-    subst (λ (y : WorldData). Outcome w y k (fault_noted at k)) (sym f.same) (outcome-failed w w x.tally k at c h (later_refl w) refl refl f.rose)
+    subst (λ (y : WorldData). LoneOutcome w y k (fault_noted at k)) (sym f.same) (outcome-failed w w x.tally k at c h (later_refl w) refl refl f.rose)
 
 length-ratified_from : (n : ℕ) (es : List Entry) → length (ratified_from n es) ≡ length es
 length-ratified_from n [] = refl
@@ -119,6 +121,7 @@ commits_grown w k c h t = record {
   terms = refl;
   seen = h.seen;
   mine = starts_refl _;
+  rising = λ r. r;
   told = le_refl _;
   published = omega arith;
   reported = omega (arith, h.reported, t.reported);
@@ -139,12 +142,12 @@ commits_grown w k c h t = record {
 }
 
 pub outcome-commits : (w x : WorldData) (k : Knowledge) (r : Result Commits StepFault) → IsConsistent w → HoldsIn w k → CommitsTurn w r x
-    → Outcome w x k (commits_learned k r x)
+    → LoneOutcome w x k (commits_learned k r x)
 outcome-commits w x k (Ok c) con h t =
-    let P : WorldData → Type 0 = λ y. Outcome w y k (commits_learned k (Ok c) y) in
-    subst P (sym t.1) (outcome-quiet w k _ con (commits_known w k c con h t.0) (commits_grown w k c h t.0) refl refl (λ e. refl) (λ e roomy. refl))
+    let P : WorldData → Type 0 = λ y. LoneOutcome w y k (commits_learned k (Ok c) y) in
+    subst P (sym t.1) (outcome-quiet w k _ con (commits_known w k c con h t.0) (commits_grown w k c h t.0) refl refl (λ e. refl) refl)
 outcome-commits w x k (Err Memory) con h t =
-    let P : WorldData → Type 0 = λ y. Outcome w y k k in
+    let P : WorldData → Type 0 = λ y. LoneOutcome w y k k in
     subst P (sym t) (outcome-refused w k con h)
 outcome-commits w x k (Err (Fault at)) con h t = absurd t
 
@@ -170,3 +173,93 @@ learns-commits w x k (Ok c) con h t =
     subst P (sym t.1) (commits_learnt w k c con h t.0)
 learns-commits w x k (Err Memory) con h t = refl
 learns-commits w x k (Err (Fault at)) con h t = absurd t
+
+-- the turn that looks for one version
+
+found_in : (w : WorldData) (version : ℕ) → IsConsistent w → (version < length w.records) ⊎ (length w.records ≤ version)
+    → IsFoundAs w.tells (ratified_at w.records version) version (log_of w)
+found_in w version con (inl less) =
+    let is : ratified_at w.records version ≡ Some (ratified version (entry_at w.records version)) =
+    ap (option_map (ratified version)) (slice_get-get_or w.records version no_entry less) in
+    let P : Option Ratified → Type 0 = λ o. IsFoundAs w.tells o version (log_of w) in
+    subst P (sym is) (
+      let e = length-log_of w in omega (arith, e, less),
+      record {
+        version_is = refl;
+        id_is = sym (ap (λ (d : Commit). d.id) (log_commit w version less));
+        time_is = λ tells. (con.filed tells).times version less;
+      },
+    )
+found_in w version con (inr past) =
+    let is : ratified_at w.records version ≡ None = ap (option_map (ratified version)) (slice_get_past w.records version past) in
+    let P : Option Ratified → Type 0 = λ o. IsFoundAs w.tells o version (log_of w) in
+    subst P (sym is) (let e = length-log_of w in omega (arith, e, past))
+
+lookup_known : (w : WorldData) (k : Knowledge) → HoldsIn w k → HoldsIn w (record k { seen = log_of w; asks = k.asks + 1 })
+lookup_known w k h = record {
+  terms = h.terms;
+  seen = starts_refl _;
+  mine = mine_more _ _ k.mine (let e = length-log_of w in let s = seen_length w k h in omega (arith, e, s)) h.mine;
+  told = h.told;
+  reported = h.reported;
+  within = h.within;
+  published = h.published;
+  kept = h.kept;
+  marks = h.marks;
+  marked = h.marked;
+  faults = h.faults;
+}
+
+lookup_grown : (w : WorldData) (k : Knowledge) → HoldsIn w k → IsGrown k (record k { seen = log_of w; asks = k.asks + 1 })
+lookup_grown w k h = record {
+  terms = refl;
+  seen = h.seen;
+  mine = starts_refl _;
+  rising = λ r. r;
+  told = le_refl _;
+  published = le_refl _;
+  reported = le_refl _;
+  kept = starts_refl _;
+  marks = starts_refl _;
+  cleared = starts_refl _;
+  takens = starts_refl _;
+  absents = starts_refl _;
+  put = starts_refl _;
+  failed = starts_refl _;
+  tries = starts_refl _;
+  heard = starts_refl _;
+  asks = omega arith;
+  lists = le_refl _;
+  gets = le_refl _;
+  looks = le_refl _;
+  faults = le_refl _;
+}
+
+pub outcome-lookup : (version : ℕ) (w x : WorldData) (k : Knowledge) (r : Result Looked StepFault) → IsConsistent w → HoldsIn w k → LookupTurn version w r x
+    → LoneOutcome w x k (lookup_learned k r x)
+outcome-lookup version w x k (Ok a) con h t =
+    let P : WorldData → Type 0 = λ y. LoneOutcome w y k (lookup_learned k (Ok a) y) in
+    subst P (sym t.same) (outcome-quiet w k _ con (lookup_known w k h) (lookup_grown w k h) refl refl (λ e. refl) refl)
+outcome-lookup version w x k (Err Memory) con h t =
+    let P : WorldData → Type 0 = λ y. LoneOutcome w y k k in
+    subst P (sym t) (outcome-refused w k con h)
+outcome-lookup version w x k (Err (Fault at)) con h t = absurd t
+
+lookup_learnt : (version : ℕ) (w x : WorldData) (k : Knowledge) (a : Looked) → IsConsistent w → HoldsIn w k → Looks w version a x
+    → LookupLearnt w.tells version k a (record k { seen = log_of w; asks = k.asks + 1 })
+lookup_learnt version w x k a con h t = record {
+  same = refl;
+  sees = record { front = h.seen; told = let e = length-log_of w in omega (arith, e, h.told) };
+  count = t.count ∙ sym (length-log_of w);
+  found =
+      let P : Option Ratified → Type 0 = λ o. IsFoundAs w.tells o version (log_of w) in
+      subst P (sym t.found) (found_in w version con (below_or_above version (length w.records)));
+}
+
+pub learns-lookup : (version : ℕ) (w x : WorldData) (k : Knowledge) (r : Result Looked StepFault) → IsConsistent w → HoldsIn w k → LookupTurn version w r x
+    → LearnsLookup w.tells version k r (lookup_learned k r x)
+learns-lookup version w x k (Ok a) con h t =
+    let P : WorldData → Type 0 = λ y. LearnsLookup w.tells version k (Ok a) (lookup_learned k (Ok a) y) in
+    subst P (sym t.same) (lookup_learnt version w x k a con h t)
+learns-lookup version w x k (Err Memory) con h t = refl
+learns-lookup version w x k (Err (Fault at)) con h t = absurd t

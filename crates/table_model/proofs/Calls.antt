@@ -19,13 +19,13 @@ use Rattle.table_model.specs.Knowledge.{Knowledge, Terms, Triple, StartsWith, Is
 use Rattle.table_model.specs.Holding.{HoldsIn, IsLater, IsKeptIn, terms_of}
 use Rattle.table_model.specs.Conditions.{triple, MayRatify, MayPublish, MayReport, MayClear}
 use Rattle.table_model.specs.Learning.{fault_noted}
-use Rattle.table_model.specs.Outcome.{Outcome}
+use Rattle.table_model.specs.Alone.{LoneOutcome}
 use Rattle.table_model.proofs.FileLaws.{fits_published, fits_staged, file_at-put_at, file_at-put_at_other, file_at-drop_at, file_at-drop_at_other}
 use Rattle.table_model.proofs.Growing.{starts_refl, starts_more, starts_trans, le_refl, le_trans, grows_refl}
 use Rattle.table_model.proofs.Logs.{commits_from-same, commits_from-append}
-use Rattle.table_model.proofs.Worlds.{later_refl, later_trans, later_tally, consistent_tally, holds_later, below_or_above, bytes_of, is_there}
+use Rattle.table_model.proofs.Worlds.{same_own, later_refl, later_trans, later_tally, consistent_tally, holds_later, below_or_above, bytes_of, is_there}
 use Rattle.table_model.proofs.Knowing.{seen_length, length-log_of, seen_commit, all_seen, log_commit, commit_file}
-use Rattle.table_model.proofs.Outcomes.{outcome-quiet, outcome-refused, outcome-failed, same_log_of, below_max, marks_more, mine_more}
+use Rattle.table_model.proofs.Outcomes.{none_lost, outcome-quiet, outcome-refused, outcome-failed, same_log_of, below_max, marks_more, mine_more}
 use Rattle.object_store.specs.declared.store.Put.{Put}
 use Rattle.object_store.specs.declared.store.Put.TheVariants as put
 use Rattle.object_store.specs.declared.store.Gone.{Gone}
@@ -42,24 +42,26 @@ use Rattle.table_model.proofs.Sound.{last_or_below}
 use Rattle.table_model.proofs.Changing.{Change, change-none, change-stage, change-publish, change-clear, IsDueText}
 
 -- a change of the files, and what is known after it
-outcome-changed : (w y : WorldData) (k m : Knowledge) → Change w y → HoldsIn y m → IsGrown k m → m.mine ≡ k.mine → m.faults ≡ k.faults → m.seen ≡ k.seen → m.tries ≡ k.tries → Outcome w y k m
+outcome-changed : (w y : WorldData) (k m : Knowledge) → Change w y → HoldsIn y m → IsGrown k m → m.mine ≡ k.mine → m.faults ≡ k.faults → m.seen ≡ k.seen → m.tries ≡ k.tries → LoneOutcome w y k m
 outcome-changed w y k m c h g mine faults seen tries = record {
-  later = c.later;
-  consistent = c.consistent;
-  holds = h;
-  grown = g;
-  mine = inl mine;
-  alone = λ e. seen ∙ e ∙ sym (same_log_of w y c.later c.records);
-  own = ap (λ (es : List Entry). length es + length k.mine) c.records ∙ ap (λ (vs : List ℕ). length w.records + length vs) (sym mine);
-  faults = let e = c.tally in omega (arith, faults, e);
-  quiet = λ same. c.tally;
-  untried = λ e roomy. tries;
+  turn = record {
+    later = c.later;
+    consistent = c.consistent;
+    holds = h;
+    grown = g;
+    own = same_own w y k m mine;
+    faults = let e = c.tally in omega (arith, faults, e);
+  };
+  seen = λ e. seen ∙ e ∙ sym (same_log_of w y c.later c.records);
+  tries = λ e. none_lost w y k m tries;
+  all = ap (λ (es : List Entry). length es + length k.mine) c.records ∙ ap (λ (vs : List ℕ). length w.records + length vs) (sym mine);
+  met = let e = c.tally in omega (arith, faults, e);
 }
 
 -- a change in doubt
-outcome-doubt : (w y x : WorldData) (k : Knowledge) (at : Spot) → IsConsistent w → HoldsIn w k → Change w y → IsInDoubt w y x → Outcome w x k (fault_noted at k)
+outcome-doubt : (w y x : WorldData) (k : Knowledge) (at : Spot) → IsConsistent w → HoldsIn w k → Change w y → IsInDoubt w y x → LoneOutcome w x k (fault_noted at k)
 outcome-doubt w y x k at con h c d =
-    let P : WorldData → Type 0 = λ z. Outcome w z k (fault_noted at k) in
+    let P : WorldData → Type 0 = λ z. LoneOutcome w z k (fault_noted at k) in
     elim d.files [
       | inl same ↦ subst P (sym same) (outcome-failed w w x.tally k at con h (later_refl w) refl refl d.rose)
       | inr done ↦ subst P (sym done) (outcome-failed w y x.tally k at c.consistent h c.later c.tally c.records d.rose)
@@ -94,6 +96,7 @@ staged_grown k version id text = record {
   terms = refl;
   seen = starts_refl _;
   mine = starts_refl _;
+  rising = λ r. r;
   told = le_refl _;
   published = le_refl _;
   reported = le_refl _;
@@ -139,6 +142,7 @@ taken_grown k n = record {
   terms = refl;
   seen = starts_refl _;
   mine = starts_refl _;
+  rising = λ r. r;
   told = le_refl _;
   published = le_refl _;
   reported = le_refl _;
@@ -178,6 +182,7 @@ put_grown k m n g = record {
   terms = g.terms;
   seen = g.seen;
   mine = g.mine;
+  rising = g.rising;
   told = g.told;
   published = g.published;
   reported = g.reported;
@@ -198,34 +203,36 @@ put_grown k m n g = record {
 }
 
 -- whatever was noted, a name that may have been put is noted too
-outcome-put : (w x : WorldData) (k m : Knowledge) (n : LogName) → Outcome w x k m → Outcome w x k (record m { put = m.put ++ n ∷ [] })
+outcome-put : (w x : WorldData) (k m : Knowledge) (n : LogName) → LoneOutcome w x k m → LoneOutcome w x k (record m { put = m.put ++ n ∷ [] })
 outcome-put w x k m n o = record {
-  later = o.later;
-  consistent = o.consistent;
-  holds = put_holds x m n o.holds;
-  grown = put_grown k m n o.grown;
-  mine = o.mine;
-  alone = o.alone;
-  own = o.own;
-  faults = o.faults;
-  quiet = o.quiet;
-  untried = o.untried;
+  turn = record {
+    later = o.turn.later;
+    consistent = o.turn.consistent;
+    holds = put_holds x m n o.turn.holds;
+    grown = put_grown k m n o.turn.grown;
+    own = record { gained = o.turn.own.gained; new = o.turn.own.new };
+    faults = o.turn.faults;
+  };
+  seen = o.seen;
+  tries = λ e. (let l = o.tries e in record { gained = l.gained; all = l.all });
+  all = o.all;
+  met = o.met;
 }
 
 pub outcome-stage : (version id : ℕ) (text : List ℕ) (w x : WorldData) (k : Knowledge) (r : Result Staged StepFault) → IsConsistent w → HoldsIn w k
-    → version < 2 ^ 64 → id < 2 ^ 128 → StageTurn version id text w r x → Outcome w x k (stage_learned version id text k r)
+    → version < 2 ^ 64 → id < 2 ^ 128 → StageTurn version id text w r x → LoneOutcome w x k (stage_learned version id text k r)
 outcome-stage version id text w x k (Ok staged.Done) con h small tiny t =
     let y : WorldData = told_put w (name.Staged version id) text in
-    let P : WorldData → Type 0 = λ z. Outcome w z k (stage_learned version id text k (Ok staged.Done)) in
+    let P : WorldData → Type 0 = λ z. LoneOutcome w z k (stage_learned version id text k (Ok staged.Done)) in
     let c : Change w y = change-stage w version id text con small tiny t.absent t.unratified in
     subst P (sym t.done) (outcome-changed w y k _ c
     (staged_holds w y k version id text (holds_later w y k h c.later) (λ tells. staged_file w version id text small tiny tells))
     (staged_grown k version id text) refl refl refl refl)
 outcome-stage version id text w x k (Ok staged.Taken) con h small tiny t =
-    let P : WorldData → Type 0 = λ z. Outcome w z k (stage_learned version id text k (Ok staged.Taken)) in
-    subst P (sym t.same) (outcome-quiet w k _ con (taken_holds w k _ h) (taken_grown k _) refl refl (λ e. e) (λ e roomy. refl))
+    let P : WorldData → Type 0 = λ z. LoneOutcome w z k (stage_learned version id text k (Ok staged.Taken)) in
+    subst P (sym t.same) (outcome-quiet w k _ con (taken_holds w k _ h) (taken_grown k _) refl refl (λ e. e) refl)
 outcome-stage version id text w x k (Err Memory) con h small tiny t =
-    let P : WorldData → Type 0 = λ z. Outcome w z k k in subst P (sym t) (outcome-refused w k con h)
+    let P : WorldData → Type 0 = λ z. LoneOutcome w z k k in subst P (sym t) (outcome-refused w k con h)
 outcome-stage version id text w x k (Err (Fault at)) con h small tiny t =
     let n : LogName = name.Staged version id in
     let c : Change w (after_put w n text) = put_case w (told_put w n text) _ con (λ absent. change-stage w version id text con small tiny (λ tells. absent) t.1.unratified) in
@@ -274,6 +281,7 @@ published_grown k n le = record {
   terms = refl;
   seen = starts_refl _;
   mine = starts_refl _;
+  rising = λ r. r;
   told = le_refl _;
   published = le;
   reported = le_refl _;
@@ -300,19 +308,19 @@ published_file w version text small tells =
     ∙ file_at-put_at w.files (name.Published version) (published_text version) text (fits_published version small) refl)
 
 pub outcome-publish : (version : ℕ) (text : List ℕ) (w x : WorldData) (k : Knowledge) (r : Result Put StepFault) → IsConsistent w → HoldsIn w k
-    → version < 2 ^ 64 → MayPublish w.tells k version text → PublishTurn version text w r x → Outcome w x k (publish_learned version k r)
+    → version < 2 ^ 64 → MayPublish w.tells k version text → PublishTurn version text w r x → LoneOutcome w x k (publish_learned version k r)
 outcome-publish version text w x k (Ok put.Done) con h small m t =
     let y : WorldData = told_put w (name.Published version) text in
-    let P : WorldData → Type 0 = λ z. Outcome w z k (publish_learned version k (Ok put.Done)) in
+    let P : WorldData → Type 0 = λ z. LoneOutcome w z k (publish_learned version k (Ok put.Done)) in
     let c : Change w y = change-publish w k version text con small t.absent (due_text w k version text h m) in
     subst P (sym t.done) (outcome-changed w y k _ c
     (published_holds y k version (holds_later w y k h c.later) m.below (λ tells. published_file w version text small tells))
     (published_grown k _ (omega arith)) refl refl refl refl)
 outcome-publish version text w x k (Ok put.There) con h small m t =
-    let P : WorldData → Type 0 = λ z. Outcome w z k (publish_learned version k (Ok put.There)) in
-    subst P (sym t.same) (outcome-quiet w k _ con (published_holds w k version h m.below t.there) (published_grown k _ (omega arith)) refl refl (λ e. e) (λ e roomy. refl))
+    let P : WorldData → Type 0 = λ z. LoneOutcome w z k (publish_learned version k (Ok put.There)) in
+    subst P (sym t.same) (outcome-quiet w k _ con (published_holds w k version h m.below t.there) (published_grown k _ (omega arith)) refl refl (λ e. e) refl)
 outcome-publish version text w x k (Err Memory) con h small m t =
-    let P : WorldData → Type 0 = λ z. Outcome w z k k in subst P (sym t) (outcome-refused w k con h)
+    let P : WorldData → Type 0 = λ z. LoneOutcome w z k k in subst P (sym t) (outcome-refused w k con h)
 outcome-publish version text w x k (Err (Fault at)) con h small m t =
     let n : LogName = name.Published version in
     let c : Change w (after_put w n text) = put_case w (told_put w n text) _ con (λ absent. change-publish w k version text con small (λ tells. absent) (due_text w k version text h m)) in
@@ -349,6 +357,7 @@ reported_later : (w : WorldData) (n : ℕ) → w.reported ≤ n → IsLater w (r
 reported_later w n le = record {
   limits = refl;
   tells = refl;
+  first = refl;
   log = starts_refl _;
   records = le_refl _;
   reported = le;
@@ -396,6 +405,7 @@ reported_grown w k count n h e = record {
   terms = refl;
   seen = starts_refl _;
   mine = starts_refl _;
+  rising = λ r. r;
   told = le_refl _;
   published = omega arith;
   reported = let s = h.reported in omega (arith, e, s);
@@ -416,25 +426,27 @@ reported_grown w k count n h e = record {
 }
 
 pub outcome-report : (count : ℕ) (w x : WorldData) (k : Knowledge) (r : Result ℕ StepFault) → IsConsistent w → HoldsIn w k → MayReport k count → ReportTurn count w r x
-    → Outcome w x k (report_learned k r)
+    → LoneOutcome w x k (report_learned k r)
 outcome-report count w x k (Ok n) con h m t =
-    let P : WorldData → Type 0 = λ y. Outcome w y k (report_learned k (Ok n)) in
+    let P : WorldData → Type 0 = λ y. LoneOutcome w y k (report_learned k (Ok n)) in
     let e : n ≡ max w.reported count = t.larger in
     let later : IsLater w (reported_world w n) = reported_later w n (omega (arith, e)) in
     subst P (sym t.after) (record {
-      later = later;
-      consistent = reported_consistent w k count n con h m e;
-      holds = reported_holds w k count n con h (holds_later w (reported_world w n) k h later) m e;
-      grown = reported_grown w k count n h e;
-      mine = inl refl;
-      alone = λ seen. seen;
-      own = refl;
-      faults = omega arith;
-      quiet = λ same. refl;
-      untried = λ e roomy. refl;
+      turn = record {
+        later = later;
+        consistent = reported_consistent w k count n con h m e;
+        holds = reported_holds w k count n con h (holds_later w (reported_world w n) k h later) m e;
+        grown = reported_grown w k count n h e;
+        own = same_own w (reported_world w n) k (record k { published = max k.published n; reported = n }) refl;
+        faults = omega arith;
+      };
+      seen = λ seen. seen;
+      tries = λ seen. none_lost w (reported_world w n) k (record k { published = max k.published n; reported = n }) refl;
+      all = refl;
+      met = omega arith;
     })
 outcome-report count w x k (Err Memory) con h m t =
-    let P : WorldData → Type 0 = λ y. Outcome w y k k in subst P (sym t) (outcome-refused w k con h)
+    let P : WorldData → Type 0 = λ y. LoneOutcome w y k k in subst P (sym t) (outcome-refused w k con h)
 outcome-report count w x k (Err (Fault at)) con h m t = absurd t
 
 pub learns-report : (count : ℕ) (w x : WorldData) (k : Knowledge) (r : Result ℕ StepFault) → HoldsIn w k → ReportTurn count w r x
@@ -473,6 +485,7 @@ cleared_grown k c = record {
   terms = refl;
   seen = starts_refl _;
   mine = starts_refl _;
+  rising = λ r. r;
   told = le_refl _;
   published = le_refl _;
   reported = le_refl _;
@@ -493,17 +506,17 @@ cleared_grown k c = record {
 }
 
 pub outcome-clear : (version id : ℕ) (w x : WorldData) (k : Knowledge) (r : Result Gone StepFault) → IsConsistent w → HoldsIn w k
-    → version < 2 ^ 64 → id < 2 ^ 128 → MayClear k version → ClearTurn version id w r x → Outcome w x k (clear_learned version id k r)
+    → version < 2 ^ 64 → id < 2 ^ 128 → MayClear k version → ClearTurn version id w r x → LoneOutcome w x k (clear_learned version id k r)
 outcome-clear version id w x k (Ok gone.Done) con h small tiny m t =
     let y : WorldData = told_drop w (name.Staged version id) in
-    let P : WorldData → Type 0 = λ z. Outcome w z k (clear_learned version id k (Ok gone.Done)) in
+    let P : WorldData → Type 0 = λ z. LoneOutcome w z k (clear_learned version id k (Ok gone.Done)) in
     let c : Change w y = change-clear w version id con small tiny (let s = h.reported in omega arith) in
     subst P (sym t.done) (outcome-changed w y k _ c (cleared_holds y k _ (holds_later w y k h c.later)) (cleared_grown k _) refl refl refl refl)
 outcome-clear version id w x k (Ok gone.Absent) con h small tiny m t =
-    let P : WorldData → Type 0 = λ z. Outcome w z k (clear_learned version id k (Ok gone.Absent)) in
-    subst P (sym t.same) (outcome-quiet w k _ con (cleared_holds w k _ h) (cleared_grown k _) refl refl (λ e. e) (λ e roomy. refl))
+    let P : WorldData → Type 0 = λ z. LoneOutcome w z k (clear_learned version id k (Ok gone.Absent)) in
+    subst P (sym t.same) (outcome-quiet w k _ con (cleared_holds w k _ h) (cleared_grown k _) refl refl (λ e. e) refl)
 outcome-clear version id w x k (Err Memory) con h small tiny m t =
-    let P : WorldData → Type 0 = λ z. Outcome w z k k in subst P (sym t) (outcome-refused w k con h)
+    let P : WorldData → Type 0 = λ z. LoneOutcome w z k k in subst P (sym t) (outcome-refused w k con h)
 outcome-clear version id w x k (Err (Fault at)) con h small tiny m t =
     outcome-doubt w (told_drop w (name.Staged version id)) x k at con h (change-clear w version id con small tiny (let s = h.reported in omega arith)) t.1
 

@@ -85,6 +85,7 @@ changes_later : (w : WorldData) (files : Files) → Changes w files → IsLater 
 changes_later w files c = record {
   limits = refl;
   tells = refl;
+  first = refl;
   log = (let P : List Commit → Type 0 = λ l. StartsWith l (log_of w) in subst P (sym (same_log w files c.versions)) (starts_refl (log_of w)));
   records = le_refl _;
   reported = le_refl _;

@@ -8,33 +8,44 @@ use Rattle.table_model.specs.World.{WorldData, stands, log_of}
 use Rattle.table_model.specs.Consistency.{IsSized, IsFiled, IsConsistent}
 use Rattle.table_model.specs.Knowledge.{Knowledge, Terms, Triple, StartsWith, IsGrown}
 use Rattle.table_model.specs.Holding.{HoldsIn, IsLater, IsKeptIn, terms_of}
-use Rattle.table_model.specs.Outcome.{Outcome}
+use Rattle.table_model.specs.Alone.{LosesNone, LoneOutcome}
 use Rattle.table_model.specs.declared.known.Mark.{Mark}
 use Rattle.table_model.specs.declared.answers.Spot.{Spot}
 use Rattle.table_model.specs.Learning.{fault_noted}
 use Rattle.table_model.proofs.Growing.{starts_refl, starts_more, starts_trans, le_refl, le_trans, grows_refl}
-use Rattle.table_model.proofs.Worlds.{later_refl, later_trans, later_tally, consistent_tally, holds_later, below_or_above}
+use Rattle.table_model.proofs.Worlds.{same_own, later_refl, later_trans, later_tally, consistent_tally, holds_later, below_or_above}
 use Rattle.table_model.proofs.Knowing.{seen_length, length-log_of, whole_front}
 
+-- no try was refused
+pub none_lost : (w x : WorldData) (k m : Knowledge) → m.tries ≡ k.tries → LosesNone w x k m
+none_lost w x k m e = record { gained = record { rest = []; is = e ∙ sym (append-nil k.tries) }; all = λ n d less. absurd (omega arith) }
+
 -- nothing was done, and what is known holds
-pub outcome-quiet : (w : WorldData) (k m : Knowledge) → IsConsistent w → HoldsIn w m → IsGrown k m → m.mine ≡ k.mine → m.faults ≡ k.faults
-    → (k.seen ≡ log_of w → m.seen ≡ log_of w) → (k.seen ≡ log_of w → w.limits.versions ≤ w.limits.unpublished → m.tries ≡ k.tries) → Outcome w w k m
-outcome-quiet w k m c h g mine faults alone untried = record {
-  later = later_refl w;
-  consistent = c;
-  holds = h;
-  grown = g;
-  mine = inl mine;
-  alone = alone;
-  own = ap (λ (vs : List ℕ). length w.records + length vs) (sym mine);
-  faults = omega (arith, faults);
-  quiet = λ same. refl;
-  untried = untried;
+pub outcome-still : (w : WorldData) (k m : Knowledge) → IsConsistent w → HoldsIn w m → IsGrown k m → m.mine ≡ k.mine → m.faults ≡ k.faults
+    → (k.seen ≡ log_of w → m.seen ≡ log_of w) → (k.seen ≡ log_of w → LosesNone w w k m) → LoneOutcome w w k m
+outcome-still w k m c h g mine faults seen tries = record {
+  turn = record {
+    later = later_refl w;
+    consistent = c;
+    holds = h;
+    grown = g;
+    own = same_own w w k m mine;
+    faults = omega (arith, faults);
+  };
+  seen = seen;
+  tries = tries;
+  all = ap (λ (vs : List ℕ). length w.records + length vs) (sym mine);
+  met = omega (arith, faults);
 }
 
+-- the same, where no try was refused
+pub outcome-quiet : (w : WorldData) (k m : Knowledge) → IsConsistent w → HoldsIn w m → IsGrown k m → m.mine ≡ k.mine → m.faults ≡ k.faults
+    → (k.seen ≡ log_of w → m.seen ≡ log_of w) → m.tries ≡ k.tries → LoneOutcome w w k m
+outcome-quiet w k m c h g mine faults seen tries = outcome-still w k m c h g mine faults seen (λ e. none_lost w w k m tries)
+
 -- want of memory
-pub outcome-refused : (w : WorldData) (k : Knowledge) → IsConsistent w → HoldsIn w k → Outcome w w k k
-outcome-refused w k c h = outcome-quiet w k k c h (grows_refl k) refl refl (λ e. e) (λ e roomy. refl)
+pub outcome-refused : (w : WorldData) (k : Knowledge) → IsConsistent w → HoldsIn w k → LoneOutcome w w k k
+outcome-refused w k c h = outcome-quiet w k k c h (grows_refl k) refl refl (λ e. e) refl
 
 noted-holds : (x : WorldData) (k : Knowledge) (at : Spot) → HoldsIn x k → k.faults + 1 ≤ x.tally → HoldsIn x (fault_noted at k)
 noted-holds x k at h room = record {
@@ -56,6 +67,7 @@ noted-grown k at = record {
   terms = refl;
   seen = starts_refl _;
   mine = starts_refl _;
+  rising = λ r. r;
   told = le_refl _;
   published = le_refl _;
   reported = le_refl _;
@@ -81,23 +93,25 @@ same_log_of w x later records =
     let long : length (log_of x) ≡ length (log_of w) = length-log_of x ∙ ap (λ (es : List Entry). length es) records ∙ sym (length-log_of w) in
     whole_front (log_of x) (log_of w) later.log long
 
--- the store failed: its count rose, and the world is what it was or what the call would have made of it
+-- the store failed: its count rose by one, and the world is what it was or what the call would have made of it
 pub outcome-failed : (w x : WorldData) (n : ℕ) (k : Knowledge) (at : Spot) → IsConsistent x → HoldsIn w k → IsLater w x
-    → x.tally ≡ w.tally → x.records ≡ w.records → w.tally < n → Outcome w (record x { tally = n }) k (fault_noted at k)
+    → x.tally ≡ w.tally → x.records ≡ w.records → n ≡ w.tally + 1 → LoneOutcome w (record x { tally = n }) k (fault_noted at k)
 outcome-failed w x n k at c h later same records rose =
     let z : WorldData = record x { tally = n } in
     let last : IsLater w z = later_trans w x z later (later_tally x n (omega arith)) in
     record {
-      later = last;
-      consistent = consistent_tally x n c;
-      holds = noted-holds z k at (holds_later w z k h last) (let f = h.faults in omega arith);
-      grown = noted-grown k at;
-      mine = inl refl;
-      alone = λ e. e ∙ sym (same_log_of w x later records);
-      own = ap (λ (es : List Entry). length es + length k.mine) records;
-      faults = omega arith;
-      quiet = λ same. absurd (omega (arith, same));
-      untried = λ e roomy. refl;
+      turn = record {
+        later = last;
+        consistent = consistent_tally x n c;
+        holds = noted-holds z k at (holds_later w z k h last) (let f = h.faults in omega arith);
+        grown = noted-grown k at;
+        own = same_own w z k (fault_noted at k) refl;
+        faults = omega arith;
+      };
+      seen = λ e. e ∙ sym (same_log_of w x later records);
+      tries = λ e. none_lost w z k (fault_noted at k) refl;
+      all = ap (λ (es : List Entry). length es + length k.mine) records;
+      met = omega arith;
     }
 
 -- a number below the larger of two

@@ -21,18 +21,19 @@ use Rattle.object_store.specs.declared.store.Bytes.TheVariants as bytes
 use Rattle.object_store.specs.declared.store.Gone.{Gone}
 use Rattle.object_store.specs.declared.store.Gone.TheVariants as gone
 use Rattle.table_model.specs.declared.answers.Spot.{Spot}
+use Rattle.table_model.specs.declared.answers.Looked.{Looked}
 use Rattle.table_model.specs.declared.answers.Staged.{Staged}
 use Rattle.table_model.specs.declared.answers.Staged.TheVariants as staged
 use Rattle.table_model.specs.declared.answers.StepFault.{StepFault}
 use Rattle.table_model.specs.declared.answers.StepFault.TheVariants.{Fault, Memory}
 use Rattle.table_model.specs.Files.{fits, file_at, put_at, drop_at, stands_at}
 use Rattle.table_model.specs.World.{WorldData, stands, entry_at, no_entry, told_put, told_drop}
-use Rattle.table_model.specs.Turns.{IsFailed, IsInDoubt, IsRatifiedUnder, after_put, CommitsTurn, ListTurn, GetTurn, StageTurn, RatifyTurn, PublishTurn, ReportTurn, ClearTurn}
+use Rattle.table_model.specs.Turns.{IsFailed, IsInDoubt, IsRatifiedUnder, after_put, CommitsTurn, LookupTurn, ListTurn, GetTurn, StageTurn, RatifyTurn, PublishTurn, ReportTurn, ClearTurn}
 use Rattle.table_model.specs.Knowledge.{Knowledge, Triple}
 use Rattle.table_model.specs.Holding.{HoldsIn}
 use Rattle.table_model.specs.Conditions.{triple, MayRatify}
 use Rattle.table_model.specs.Learning.{fault_noted, kept_after}
-use Rattle.table_model.specs.Learned.{commits_learned, list_learned, get_learned, stage_learned, ratify_learned, publish_learned, report_learned, clear_learned}
+use Rattle.table_model.specs.Learned.{commits_learned, lookup_learned, list_learned, get_learned, stage_learned, ratify_learned, publish_learned, report_learned, clear_learned}
 use Rattle.table_model.specs.Alone.{Alone, IsPut, HasPutAll}
 use Rattle.table_model.proofs.FileLaws.{fits_published, fits_staged, file_at-put_at_other, file_at-drop_at, file_at-drop_at_other}
 use Rattle.table_model.proofs.Worlds.{below_or_above}
@@ -182,6 +183,9 @@ put_case w y m false p q = q
 
 pub puts-commits : (w x : WorldData) (k : Knowledge) (c : Commits) → CommitsTurn w (Ok c) x → HasPutAll (alone w k) → HasPutAll (alone x (commits_learned k (Ok c) x))
 puts-commits w x k c t p = let P : WorldData → Type 0 = λ y. HasPutAll (alone y (commits_learned k (Ok c) y)) in subst P (sym t.1) p
+
+pub puts-lookup : (version : ℕ) (w x : WorldData) (k : Knowledge) (a : Looked) → LookupTurn version w (Ok a) x → HasPutAll (alone w k) → HasPutAll (alone x (lookup_learned k (Ok a) x))
+puts-lookup version w x k a t p = let P : WorldData → Type 0 = λ y. HasPutAll (alone y (lookup_learned k (Ok a) y)) in subst P (sym t.same) p
 
 pub puts-list : (w x : WorldData) (k : Knowledge) (r : Result (Vec LogName Global) StepFault) → ListTurn w r x → HasPutAll (alone w k) → HasPutAll (alone x (list_learned k r))
 puts-list w x k (Ok names) t p = let P : WorldData → Type 0 = λ y. HasPutAll (alone y (list_learned k (Ok names))) in subst P (sym t.same) p

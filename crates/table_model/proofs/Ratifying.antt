@@ -2,6 +2,7 @@
 use Rattle.std.proofs.Common.{◌≡◌, ◌≢◌, ◌<◌, ◌≤◌, ◌+◌, ◌^◌, ◌⊎◌, inl, inr, ℕ, zero, suc, Bool, true, false, cond, List, [], ◌∷◌, ◌++◌, length, take, drop, refl, sym, ◌∙◌, ap, subst, arith, rules, Option, Some, None, IsTrue, length-append, append-nil, max, unwrap_or}
 use Rattle.std.specs.Prelude.{All, Contains, IfSome, is_some, Result, Ok, Err, ℤ, slice_index_or}
 use Rattle.std.proofs.lemmas.List.Elements.{All-weaker, All-push, All-append, All-contains, Contains-push}
+use Rattle.std.proofs.lemmas.List.Quantifiers.{all_pairs_push}
 use Rattle.std.proofs.lemmas.Bool.Decides.{eqb_tells}
 use Rattle.log_names.specs.declared.LogName.{LogName}
 use Rattle.log_names.specs.declared.LogName.TheVariants as name
@@ -19,13 +20,13 @@ use Rattle.table_model.specs.Knowledge.{Knowledge, Terms, Triple, StartsWith, Is
 use Rattle.table_model.specs.Holding.{HoldsIn, IsLater, IsKeptIn, terms_of}
 use Rattle.table_model.specs.Conditions.{triple, MayRatify, MayPublish, MayReport, MayClear}
 use Rattle.table_model.specs.Learning.{fault_noted}
-use Rattle.table_model.specs.Outcome.{Outcome}
+use Rattle.table_model.specs.Alone.{LosesNone, LoneOutcome, MeetsLimit}
 use Rattle.table_model.proofs.FileLaws.{fits_published, fits_staged, file_at-put_at, file_at-put_at_other, file_at-drop_at, file_at-drop_at_other}
 use Rattle.table_model.proofs.Growing.{starts_refl, starts_more, starts_trans, le_refl, le_trans, grows_refl}
 use Rattle.table_model.proofs.Logs.{commits_from-same, commits_from-append}
 use Rattle.table_model.proofs.Worlds.{later_refl, later_trans, later_tally, consistent_tally, holds_later, below_or_above, bytes_of, is_there}
 use Rattle.table_model.proofs.Knowing.{seen_length, length-log_of, seen_commit, all_seen, log_commit, commit_file}
-use Rattle.table_model.proofs.Outcomes.{outcome-quiet, outcome-refused, outcome-failed, below_max, marks_more, mine_more}
+use Rattle.table_model.proofs.Outcomes.{none_lost, outcome-still, outcome-quiet, outcome-refused, outcome-failed, below_max, marks_more, mine_more}
 use Rattle.commit_catalog.specs.declared.Ratify.{Ratify}
 use Rattle.commit_catalog.specs.declared.Ratify.TheVariants as ratify
 use Rattle.commit_catalog.specs.Ratifying.{RatifyAnswers, IsLost, IsFull, IsBacklog, IsFree}
@@ -178,6 +179,7 @@ ratified_later : (w : WorldData) (id : ℕ) (time : ℤ) → IsLater w (ratified
 ratified_later w id time = record {
   limits = refl;
   tells = refl;
+  first = refl;
   log = (let P : List Commit → Type 0 = λ l. StartsWith l (log_of w) in subst P (sym (log_ratified w id time)) (starts_more (log_of w) _));
   records = let e = more_records w id time in omega (arith, e);
   reported = le_refl _;
@@ -218,12 +220,13 @@ ratified_holds w k version id time text h r =
       faults = h.faults;
     }
 
-ratified_grown : (w : WorldData) (k : Knowledge) (version id : ℕ) (time : ℤ) → StartsWith (log_of (ratified_world w id time)) k.seen
+ratified_grown : (w : WorldData) (k : Knowledge) (version id : ℕ) (time : ℤ) → StartsWith (log_of (ratified_world w id time)) k.seen → All (λ v. v < version) k.mine
     → IsGrown k (record k { seen = log_of (ratified_world w id time); mine = k.mine ++ version ∷ [] })
-ratified_grown w k version id time s = record {
+ratified_grown w k version id time s below = record {
   terms = refl;
   seen = s;
   mine = starts_more _ _;
+  rising = λ r. all_pairs_push (λ (a b : ℕ). a < b) k.mine version r below;
   told = le_refl _;
   published = le_refl _;
   reported = le_refl _;
@@ -245,20 +248,26 @@ ratified_grown w k version id time s = record {
 
 outcome-ratified : (w : WorldData) (k : Knowledge) (version id : ℕ) (time : ℤ) (text : List ℕ) → IsConsistent w → HoldsIn w k
     → IsFree w.limits (length w.records) w.reported version → Ready w k version id time text
-    → Outcome w (ratified_world w id time) k (record k { seen = log_of (ratified_world w id time); mine = k.mine ++ version ∷ [] })
+    → LoneOutcome w (ratified_world w id time) k (record k { seen = log_of (ratified_world w id time); mine = k.mine ++ version ∷ [] })
 outcome-ratified w k version id time text con h free r =
     let h2 : HoldsIn (ratified_world w id time) k = holds_later w (ratified_world w id time) k h (ratified_later w id time) in
     record {
-      later = ratified_later w id time;
-      consistent = ratified_consistent w k version id time text con free r;
-      holds = ratified_holds w k version id time text h2 r;
-      grown = ratified_grown w k version id time h2.seen;
-      mine = inr (ap (λ v. k.mine ++ v ∷ []) r.at_end);
-      alone = λ e. refl;
-      own = let a = more_records w id time in let b = length-append k.mine (version ∷ []) in omega (arith, a, b);
-      faults = omega arith;
-      quiet = λ same. refl;
-      untried = λ e roomy. refl;
+      turn = record {
+        later = ratified_later w id time;
+        consistent = ratified_consistent w k version id time text con free r;
+        holds = ratified_holds w k version id time text h2 r;
+        grown = ratified_grown w k version id time h2.seen (mine_more (length k.seen) version k.mine (omega (arith, seen_length w k h, r.at_end)) h.mine);
+        own = record {
+          gained = record { rest = version ∷ []; is = refl };
+          new = All-push (λ v. (length w.records ≤ v) × (v < length (w.records ++ new_entry id time ∷ []))) [] version (λ n d less. absurd (omega arith))
+              (omega (arith, r.at_end), omega (arith, r.at_end, more_records w id time));
+        };
+        faults = omega arith;
+      };
+      seen = λ e. refl;
+      tries = λ e. none_lost w (ratified_world w id time) k (record k { seen = log_of (ratified_world w id time); mine = k.mine ++ version ∷ [] }) refl;
+      all = let a = more_records w id time in let b = length-append k.mine (version ∷ []) in omega (arith, a, b);
+      met = omega arith;
     }
 
 one_text : (o : Option (List ℕ)) (a b : List ℕ) → o ≡ Some a → o ≡ Some b → a ≡ b
@@ -331,6 +340,7 @@ lost_grown w k version answer h = record {
   terms = refl;
   seen = h.seen;
   mine = starts_refl _;
+  rising = λ r. r;
   told = le_refl _;
   published = le_refl _;
   reported = le_refl _;
@@ -355,6 +365,7 @@ full_grown w k h = record {
   terms = refl;
   seen = h.seen;
   mine = starts_refl _;
+  rising = λ r. r;
   told = le_refl _;
   published = le_refl _;
   reported = le_refl _;
@@ -380,6 +391,7 @@ backlog_grown w k version reported h e = record {
   terms = refl;
   seen = h.seen;
   mine = starts_refl _;
+  rising = λ r. r;
   told = le_refl _;
   published = omega arith;
   reported = let s = h.reported in omega (arith, e, s);
@@ -421,27 +433,47 @@ no_try k version answer less = elim (eqb_tells version (length k.seen)) [
   | inr other ↦ ap (λ (b : Bool). k.tries ++ cond b ((let t : Try = record { version = version; answer = answer } in t) ∷ []) []) other.0 ∙ append-nil k.tries
 ]
 
+-- a refused try met the limit of unpublished commits
+one_tried : (P : Try → Type 0) (t : Try) (b : Bool) → P t → All P (cond b (t ∷ []) [])
+one_tried P t true h = All-push P [] t (λ n d less. absurd (omega arith)) h
+one_tried P t false h = λ n d less. absurd (omega arith)
+
+backlog_tries : (w : WorldData) (k : Knowledge) (version latest reported : ℕ) → version ≡ length w.records → IsBacklog w.limits (length w.records) w.reported version latest reported
+    → LosesNone w w k (record k { seen = log_of w; published = max k.published reported; reported = reported; tries = tries_after k version refusal.Backlog })
+backlog_tries w k version latest reported at b = record {
+  gained = record { rest = _; is = refl };
+  all = one_tried (MeetsLimit w w) (record { version = version; answer = refusal.Backlog }) _ (record {
+    answer = refl;
+    allowed = omega (arith, at, b.allowed);
+    least = omega (arith, at, b.at_limit);
+    most = omega (arith, at, b.at_limit);
+  });
+}
+
 pub outcome-ratify : (version id : ℕ) (time : ℤ) (w x : WorldData) (k : Knowledge) (r : Result Ratify StepFault) → IsConsistent w → HoldsIn w k
-    → MayRatify w.tells k version id time → RatifyTurn version id time w r x → Outcome w x k (ratify_learned version k r x)
+    → MayRatify w.tells k version id time → RatifyTurn version id time w r x → LoneOutcome w x k (ratify_learned version k r x)
 outcome-ratify version id time w x k (Ok ratify.Done) con h m t =
-    let P : WorldData → Type 0 = λ y. Outcome w y k (ratify_learned version k (Ok ratify.Done) y) in
+    let P : WorldData → Type 0 = λ y. LoneOutcome w y k (ratify_learned version k (Ok ratify.Done) y) in
     let free : IsFree w.limits (length w.records) w.reported version = t.answer in
     subst P (sym t.after) (outcome-ratified w k version id time m.bytes con h free (ready w k version id time h m free.next))
 outcome-ratify version id time w x k (Ok (ratify.Lost latest)) con h m t =
-    let P : WorldData → Type 0 = λ y. Outcome w y k (ratify_learned version k (Ok (ratify.Lost latest)) y) in
+    let P : WorldData → Type 0 = λ y. LoneOutcome w y k (ratify_learned version k (Ok (ratify.Lost latest)) y) in
     let lost : IsLost (length w.records) version latest = t.answer in
     subst P (sym t.after)
-    (outcome-quiet w k _ con (tried_holds w k version refusal.Lost h) (lost_grown w k version refusal.Lost h) refl refl (λ e. refl)
-    (λ e roomy. no_try k version refusal.Lost (omega (arith, lost.below, ap length e, length-log_of w))))
+    (outcome-still w k _ con (tried_holds w k version refusal.Lost h) (lost_grown w k version refusal.Lost h) refl refl (λ e. refl)
+    (λ e. none_lost w w k _ (no_try k version refusal.Lost (omega (arith, lost.below, ap length e, length-log_of w)))))
 outcome-ratify version id time w x k (Ok (ratify.Full latest)) con h m t =
-    let P : WorldData → Type 0 = λ y. Outcome w y k (ratify_learned version k (Ok (ratify.Full latest)) y) in
-    subst P (sym t.after) (outcome-quiet w k _ con (seen_holds w k k h) (full_grown w k h) refl refl (λ e. refl) (λ e roomy. refl))
+    let P : WorldData → Type 0 = λ y. LoneOutcome w y k (ratify_learned version k (Ok (ratify.Full latest)) y) in
+    subst P (sym t.after) (outcome-quiet w k _ con (seen_holds w k k h) (full_grown w k h) refl refl (λ e. refl) refl)
 outcome-ratify version id time w x k (Ok (ratify.Backlog latest reported)) con h m t =
-    let P : WorldData → Type 0 = λ y. Outcome w y k (ratify_learned version k (Ok (ratify.Backlog latest reported)) y) in
+    let P : WorldData → Type 0 = λ y. LoneOutcome w y k (ratify_learned version k (Ok (ratify.Backlog latest reported)) y) in
     let b : IsBacklog w.limits (length w.records) w.reported version latest reported = t.answer in
-    subst P (sym t.after) (outcome-quiet w k _ con (backlog_holds w k version reported con h b.told) (backlog_grown w k version reported h b.told) refl refl (λ e. refl) (λ e roomy. absurd (omega (arith, b.allowed, b.at_limit, roomy))))
+    let at : version ≡ length w.records = omega (arith, m.below, seen_length w k h, b.next) in
+    subst P (sym t.after)
+    (outcome-still w k _ con (backlog_holds w k version reported con h b.told) (backlog_grown w k version reported h b.told) refl refl (λ e. refl)
+    (λ e. backlog_tries w k version latest reported at b))
 outcome-ratify version id time w x k (Err Memory) con h m t =
-    let P : WorldData → Type 0 = λ y. Outcome w y k k in
+    let P : WorldData → Type 0 = λ y. LoneOutcome w y k k in
     subst P (sym t) (outcome-refused w k con h)
 outcome-ratify version id time w x k (Err (Fault at)) con h m t = absurd t
 

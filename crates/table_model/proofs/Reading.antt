@@ -28,9 +28,9 @@ use Rattle.table_model.specs.Turns.{CommitsTurn, ListTurn, GetTurn, Lists, Finds
 use Rattle.table_model.specs.Knowledge.{Knowledge, Terms, Triple, StartsWith, IsGrown}
 use Rattle.table_model.specs.Holding.{HoldsIn, IsLater, IsKeptIn, terms_of}
 use Rattle.table_model.specs.Conditions.{triple}
-use Rattle.table_model.specs.Learning.{LearnsCommits, CommitsLearnt, IsRatifiedAs, no_ratified, SeesLog, LearnsList, ListLearnt, ShowsPublished, mark_of, LearnsGet, WholeLearnt, AbsentLearnt, kept_after, IsDue, IsShown, IsMissing, fault_noted}
+use Rattle.table_model.specs.Learning.{LearnsCommits, CommitsLearnt, IsRatifiedAs, no_ratified, SeesLog, LearnsList, ListLearnt, ShowsPublished, mark_of, LearnsGet, WholeLearnt, AbsentLearnt, IsOfCommit, kept_after, IsDue, IsShown, IsMissing, fault_noted}
 use Rattle.table_model.specs.Learned.{commits_learned, list_learned, get_learned, shown_in, published_by, published_where_gone}
-use Rattle.table_model.specs.Outcome.{Outcome}
+use Rattle.table_model.specs.Alone.{LoneOutcome}
 use Rattle.table_model.proofs.Growing.{starts_refl, starts_more, starts_trans, le_refl, le_trans, grows_refl}
 use Rattle.table_model.proofs.Worlds.{later_refl, later_trans, later_tally, consistent_tally, holds_later, below_or_above, bytes_of, is_there}
 use Rattle.table_model.proofs.Knowing.{seen_length, length-log_of, seen_commit, all_seen, log_commit, commit_file}
@@ -112,6 +112,7 @@ list_grown k names = record {
   terms = refl;
   seen = starts_refl _;
   mine = starts_refl _;
+  rising = λ r. r;
   told = le_refl _;
   published = omega arith;
   reported = le_refl _;
@@ -142,12 +143,12 @@ list_learnt w k names con h e = record {
 }
 
 pub outcome-list : (w x : WorldData) (k : Knowledge) (r : Result (Vec LogName Global) StepFault) → IsConsistent w → HoldsIn w k → ListTurn w r x
-    → Outcome w x k (list_learned k r)
+    → LoneOutcome w x k (list_learned k r)
 outcome-list w x k (Ok names) con h t =
-    let P : WorldData → Type 0 = λ y. Outcome w y k (list_learned k (Ok names)) in
-    subst P (sym t.same) (outcome-quiet w k _ con (list_known w k names.items con h t.names_are) (list_grown k names.items) refl refl (λ e. e) (λ e roomy. refl))
+    let P : WorldData → Type 0 = λ y. LoneOutcome w y k (list_learned k (Ok names)) in
+    subst P (sym t.same) (outcome-quiet w k _ con (list_known w k names.items con h t.names_are) (list_grown k names.items) refl refl (λ e. e) refl)
 outcome-list w x k (Err Memory) con h t =
-    let P : WorldData → Type 0 = λ y. Outcome w y k k in
+    let P : WorldData → Type 0 = λ y. LoneOutcome w y k k in
     subst P (sym t) (outcome-refused w k con h)
 outcome-list w x k (Err (Fault at)) con h t = outcome-failed_read w x k at con h t.1
 
@@ -225,6 +226,7 @@ gets_grown k p le = record {
   terms = refl;
   seen = starts_refl _;
   mine = starts_refl _;
+  rising = λ r. r;
   told = le_refl _;
   published = le;
   reported = le_refl _;
@@ -250,6 +252,7 @@ get_grown k (name.Staged v id) b = record {
   terms = refl;
   seen = starts_refl _;
   mine = starts_refl _;
+  rising = λ r. r;
   told = le_refl _;
   published = le_refl _;
   reported = le_refl _;
@@ -369,6 +372,7 @@ absent_grown k n = record {
   terms = refl;
   seen = starts_refl _;
   mine = starts_refl _;
+  rising = λ r. r;
   told = le_refl _;
   published = gone_more n k.seen k.published;
   reported = le_refl _;
@@ -403,16 +407,16 @@ kept_tries (name.Parquet v) b k = refl
 kept_tries name.Other b k = refl
 
 pub outcome-get : (n : LogName) (w x : WorldData) (k : Knowledge) (r : Result Bytes StepFault) → IsConsistent w → HoldsIn w k → GetTurn n w r x
-    → Outcome w x k (get_learned n k r)
+    → LoneOutcome w x k (get_learned n k r)
 outcome-get n w x k (Ok (bytes.Whole b)) con h t =
-    let P : WorldData → Type 0 = λ y. Outcome w y k (get_learned n k (Ok (bytes.Whole b))) in
+    let P : WorldData → Type 0 = λ y. LoneOutcome w y k (get_learned n k (Ok (bytes.Whole b))) in
     let m = get_mine k n b.items in
-    subst P (sym t.same) (outcome-quiet w k _ con (get_known w k n b.items con h t.is) (get_grown k n b.items) m.0 m.1 (λ e. kept_seen n b.items k ∙ e) (λ e roomy. kept_tries n b.items k))
+    subst P (sym t.same) (outcome-quiet w k _ con (get_known w k n b.items con h t.is) (get_grown k n b.items) m.0 m.1 (λ e. kept_seen n b.items k ∙ e) (kept_tries n b.items k))
 outcome-get n w x k (Ok bytes.Absent) con h t =
-    let P : WorldData → Type 0 = λ y. Outcome w y k (get_learned n k (Ok bytes.Absent)) in
-    subst P (sym t.same) (outcome-quiet w k _ con (absent_known w k n con h t.is) (absent_grown k n) refl refl (λ e. e) (λ e roomy. refl))
+    let P : WorldData → Type 0 = λ y. LoneOutcome w y k (get_learned n k (Ok bytes.Absent)) in
+    subst P (sym t.same) (outcome-quiet w k _ con (absent_known w k n con h t.is) (absent_grown k n) refl refl (λ e. e) refl)
 outcome-get n w x k (Err Memory) con h t =
-    let P : WorldData → Type 0 = λ y. Outcome w y k k in
+    let P : WorldData → Type 0 = λ y. LoneOutcome w y k k in
     subst P (sym t) (outcome-refused w k con h)
 outcome-get n w x k (Err (Fault at)) con h t = outcome-failed_read w x k at con h t.1
 
@@ -454,6 +458,27 @@ by_shown (name.Checkpoint v id) p = tt
 by_shown (name.Parquet v) p = tt
 by_shown name.Other p = tt
 
+-- a name of no commit tells nothing of what is published
+
+by_leaves : (n : LogName) (seen : List Commit) (p : ℕ) → ¬ (IsOfCommit n seen) → published_by n p ≡ p
+by_leaves (name.Published v) seen p none = absurd (none tt)
+by_leaves (name.Staged v id) seen p none = refl
+by_leaves (name.Checkpoint v id) seen p none = refl
+by_leaves (name.Parquet v) seen p none = refl
+by_leaves name.Other seen p none = refl
+
+cond_leaves : (b : Bool) (n q : ℕ) → ¬ (b ≡ true) → cond b q n ≡ n
+cond_leaves true n q differ = absurd (differ refl)
+cond_leaves false n q differ = refl
+
+gone_leaves : (n : LogName) (seen : List Commit) (p : ℕ) → ¬ (IsOfCommit n seen) → published_where_gone n seen p ≡ p
+gone_leaves (name.Published v) seen p none = refl
+gone_leaves (name.Staged v id) seen p none =
+    cond_leaves (nat_lt v (length seen) && (id == (commit_at seen v).id)) p (max p (v + 1)) (λ e. none (let t = both_true _ _ e in (ltb-true _ _ t.0, eqb-true _ _ t.1)))
+gone_leaves (name.Checkpoint v id) seen p none = refl
+gone_leaves (name.Parquet v) seen p none = refl
+gone_leaves name.Other seen p none = refl
+
 -- what was missing is none that is known to stand
 
 not_standing : (o : Option (List ℕ)) → o ≡ None → IsTrue (is_some o) → ⊥
@@ -479,12 +504,14 @@ pub learns-get : (n : LogName) (w x : WorldData) (k : Knowledge) (r : Result Byt
 learns-get n w x k (Ok (bytes.Whole b)) con h t = record {
   same = refl;
   published_before = by_more n k.published;
+  leaves = by_leaves n k.seen k.published;
   published = by_shown n k.published;
   due = λ tells. (let P : List Commit → Type 0 = λ seen. IsDue n b.items seen in subst P (sym (kept_seen n b.items k)) (due w k n b.items (con.filed tells) h (t.is tells)));
 }
 learns-get n w x k (Ok bytes.Absent) con h t = record {
   same = refl;
   published_before = gone_more n k.seen k.published;
+  leaves = gone_leaves n k.seen k.published;
   missing = λ tells. missing w k n tells con h (t.is tells);
 }
 learns-get n w x k (Err Memory) con h t = refl

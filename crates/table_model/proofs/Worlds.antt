@@ -1,5 +1,5 @@
 -- Later worlds, and knowledge that stays true in them.
-use Rattle.std.proofs.Common.{◌≡◌, ◌<◌, ◌≤◌, ◌+◌, ◌⊎◌, inl, inr, ℕ, zero, suc, Bool, true, false, List, [], ◌∷◌, ◌++◌, length, refl, sym, ◌∙◌, ap, subst, arith, rules, Option, Some, None, IsTrue, length-append}
+use Rattle.std.proofs.Common.{◌≡◌, ◌<◌, ◌≤◌, ◌+◌, ◌⊎◌, inl, inr, ℕ, zero, suc, Bool, true, false, List, [], ◌∷◌, ◌++◌, length, refl, sym, ◌∙◌, ap, subst, arith, rules, Option, Some, None, IsTrue, length-append, append-nil}
 use Rattle.std.specs.Prelude.{All, IfSome, is_some}
 use Rattle.log_names.specs.declared.LogName.{LogName}
 use Rattle.log_names.specs.declared.LogName.TheVariants as name
@@ -10,13 +10,14 @@ use Rattle.table_model.specs.Consistency.{IsSized, IsFiled, IsConsistent}
 use Rattle.std.proofs.lemmas.List.Elements.{All-weaker}
 use Rattle.table_model.specs.declared.known.Mark.{Mark}
 use Rattle.table_model.specs.Knowledge.{Knowledge, Terms, Triple, StartsWith, newcomer, at_start}
-use Rattle.table_model.specs.Holding.{HoldsIn, IsLater, IsKeptIn, terms_of}
+use Rattle.table_model.specs.Holding.{HoldsIn, IsLater, GainsOwn, IsKeptIn, terms_of}
 use Rattle.table_model.proofs.Growing.{starts_refl, starts_trans, le_refl, le_trans}
 
 pub later_refl : (w : WorldData) → IsLater w w
 later_refl w = record {
   limits = refl;
   tells = refl;
+  first = refl;
   log = starts_refl _;
   records = le_refl _;
   reported = le_refl _;
@@ -30,6 +31,7 @@ pub later_trans : (w x y : WorldData) → IsLater w x → IsLater x y → IsLate
 later_trans w x y p q = record {
   limits = q.limits ∙ p.limits;
   tells = q.tells ∙ p.tells;
+  first = q.first ∙ p.first;
   log = starts_trans p.log q.log;
   records = le_trans _ _ _ p.records q.records;
   reported = le_trans _ _ _ p.reported q.reported;
@@ -44,6 +46,7 @@ pub later_tally : (w : WorldData) (n : ℕ) → w.tally ≤ n → IsLater w (rec
 later_tally w n rose = record {
   limits = refl;
   tells = refl;
+  first = refl;
   log = starts_refl _;
   records = le_refl _;
   reported = le_refl _;
@@ -70,6 +73,10 @@ filed_tally w n f = record {
 
 pub consistent_tally : (w : WorldData) (n : ℕ) → IsConsistent w → IsConsistent (record w { tally = n })
 consistent_tally w n c = record { sized = sized_tally w n c.sized; filed = λ tells. filed_tally w n (c.filed tells) }
+
+-- no version became the caller's own
+pub same_own : (w x : WorldData) (k m : Knowledge) → m.mine ≡ k.mine → GainsOwn w x k m
+same_own w x k m e = record { gained = record { rest = []; is = e ∙ sym (append-nil k.mine) }; new = λ n d less. absurd (omega arith) }
 
 -- a file that stands has bytes
 pub bytes_of : (o : Option (List ℕ)) → IsTrue (is_some o) → (bytes : List ℕ) × (o ≡ Some bytes)

@@ -3,6 +3,7 @@ use Rattle.std.specs.Prelude.{◌≡◌, ◌<◌, ◌≤◌, ◌⊎◌, ℕ, Lis
 use Rattle.log_names.specs.declared.LogName.TheVariants as name
 use Rattle.table_model.specs.Files.{file_at}
 use Rattle.table_model.specs.World.{WorldData, stands, log_of}
+use Rattle.table_model.specs.Consistency.{IsConsistent}
 use Rattle.table_model.specs.Knowledge.{Knowledge, Terms, Triple, StartsWith}
 
 abbrev pub terms_of : WorldData → Terms
@@ -25,10 +26,15 @@ pub record HoldsIn (w : WorldData) (k : Knowledge) : Type 0 where
   pub marked : IsTrue w.tells → All (λ m. IsTrue (stands w (name.Checkpoint m.version m.id))) k.marks
   pub faults : k.faults ≤ w.tally
 
+-- a world that is told is consistent, and what its caller knows holds in it
+abbrev pub HoldsInTold : Option WorldData → Knowledge → Type 0
+HoldsInTold told k = IfSome told (λ w. IsConsistent w × HoldsIn w k)
+
 -- a later world: the log grew at its end, and what was published, reported and counted stays
 pub record IsLater (w x : WorldData) : Type 0 where
   pub limits : x.limits ≡ w.limits
   pub tells : x.tells ≡ w.tells
+  pub first : x.first ≡ w.first
   pub log : StartsWith (log_of x) (log_of w)
   pub records : length w.records ≤ length x.records
   pub reported : w.reported ≤ x.reported
@@ -38,3 +44,8 @@ pub record IsLater (w x : WorldData) : Type 0 where
       → file_at x.files (name.Checkpoint version id) ≡ Some bytes
   pub staged : (version id : ℕ) (bytes : List ℕ) → length x.records ≤ version
       → file_at w.files (name.Staged version id) ≡ Some bytes → file_at x.files (name.Staged version id) ≡ Some bytes
+
+-- the versions that became the caller's own are new ones
+pub record GainsOwn (w x : WorldData) (k m : Knowledge) : Type 0 where
+  pub gained : StartsWith m.mine k.mine
+  pub new : All (λ version. (length w.records ≤ version) × (version < length x.records)) gained.rest

@@ -1,5 +1,6 @@
 -- What one caller knows of the table.
 use Rattle.std.specs.Prelude.{◌≡◌, ◌<◌, ◌≤◌, ◌++◌, ℕ, Bool, List, [], length, IsTrue, Option, None, Some, IfSome, All}
+use Rattle.std.specs.List.{AllPairs}
 use Rattle.log_names.specs.declared.LogName.{LogName}
 use Rattle.commit_catalog.specs.declared.Limits.{Limits}
 use Rattle.object_store.specs.declared.store.Gone.{Gone}
@@ -95,11 +96,16 @@ pub record StartsWith {A : Type 0} (longer front : List A) : Type 0 where
   pub rest : List A
   pub is : longer ≡ front ++ rest
 
--- all that never falls
+-- each version is above those before it
+abbrev pub IsRising : List ℕ → Type 0
+IsRising versions = AllPairs (λ earlier later. earlier < later) versions
+
+-- all that never falls; the caller's own versions rise
 pub record IsGrown (k m : Knowledge) : Type 0 where
   pub terms : m.terms ≡ k.terms
   pub seen : StartsWith m.seen k.seen
   pub mine : StartsWith m.mine k.mine
+  pub rising : IsRising k.mine → IsRising m.mine
   pub told : k.told ≤ m.told
   pub published : k.published ≤ m.published
   pub reported : k.reported ≤ m.reported

@@ -12,6 +12,7 @@ use Rattle.object_store.specs.declared.store.Bytes.TheVariants as bytes
 use Rattle.object_store.specs.declared.store.Gone.{Gone}
 use Rattle.table_model.specs.declared.answers.StepFault.{StepFault}
 use Rattle.table_model.specs.declared.answers.StepFault.TheVariants.{Fault, Memory}
+use Rattle.table_model.specs.declared.answers.Looked.{Looked}
 use Rattle.table_model.specs.declared.answers.Staged.{Staged}
 use Rattle.table_model.specs.declared.answers.Staged.TheVariants as staged
 use Rattle.table_model.specs.declared.known.Refusal.TheVariants as refusal
@@ -28,6 +29,10 @@ fault_learned k (Fault at) = fault_noted at k
 abbrev pub commits_learned : Knowledge → Result Commits StepFault → WorldData → Knowledge
 commits_learned k (Ok c) x = record k { seen = log_of x; published = max k.published c.reported; reported = c.reported; heard = k.heard ++ c.reported ∷ []; asks = k.asks + 1 }
 commits_learned k (Err e) x = k
+
+abbrev pub lookup_learned : Knowledge → Result Looked StepFault → WorldData → Knowledge
+lookup_learned k (Ok a) x = record k { seen = log_of x; asks = k.asks + 1 }
+lookup_learned k (Err e) x = k
 
 -- one more than the greatest version of a published name, or 0
 abbrev pub above_published : LogName → ℕ → ℕ

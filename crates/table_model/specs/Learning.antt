@@ -16,6 +16,7 @@ use Rattle.table_model.specs.declared.answers.Spot.{Spot}
 use Rattle.table_model.specs.declared.answers.Spot.TheVariants as spot
 use Rattle.table_model.specs.declared.answers.StepFault.{StepFault}
 use Rattle.table_model.specs.declared.answers.StepFault.TheVariants.{Fault, Memory}
+use Rattle.table_model.specs.declared.answers.Looked.{Looked}
 use Rattle.table_model.specs.declared.answers.Staged.{Staged}
 use Rattle.table_model.specs.declared.answers.Staged.TheVariants as staged
 use Rattle.table_model.specs.declared.known.Mark.{Mark}
@@ -80,6 +81,22 @@ abbrev pub LearnsCommits : Bool → Knowledge → Result Commits StepFault → K
 LearnsCommits tells k (Ok c) m = CommitsLearnt tells k c m
 LearnsCommits tells k (Err e) m = IsOnlyMemory k e m
 
+-- `lookup`: the commit of the version as the log has it, or none where the log is no longer than that
+
+abbrev pub IsFoundAs : Bool → Option Ratified → ℕ → List Commit → Type 0
+IsFoundAs tells None version seen = length seen ≤ version
+IsFoundAs tells (Some r) version seen = (version < length seen) × IsRatifiedAs tells r version (commit_at seen version)
+
+pub record LookupLearnt (tells : Bool) (version : ℕ) (k : Knowledge) (a : Looked) (m : Knowledge) : Type 0 where
+  pub same : m ≡ record k { seen = m.seen; asks = k.asks + 1 }
+  pub sees : SeesLog k m
+  pub count : a.count ≡ length m.seen
+  pub found : IsFoundAs tells a.found version m.seen
+
+abbrev pub LearnsLookup : Bool → ℕ → Knowledge → Result Looked StepFault → Knowledge → Type 0
+LearnsLookup tells version k (Ok a) m = LookupLearnt tells version k a m
+LearnsLookup tells version k (Err e) m = IsOnlyMemory k e m
+
 -- `list`: the published names are those of the first versions, all known to be published; the checkpoints are marked
 
 abbrev pub mark_of : LogName → Option Mark
@@ -105,6 +122,14 @@ LearnsList tells k (Ok names) m = ListLearnt tells k names.items m
 LearnsList tells k (Err e) m = IsFaultAt spot.Folder k e m
 
 -- `get`
+
+-- the name is a published one, or the staged one of a commit that was seen
+abbrev pub IsOfCommit : LogName → List Commit → Type 0
+IsOfCommit (name.Published version) seen = Unit {0}
+IsOfCommit (name.Staged version id) seen = (version < length seen) × (id ≡ (commit_at seen version).id)
+IsOfCommit (name.Checkpoint version id) seen = ⊥
+IsOfCommit (name.Parquet version) seen = ⊥
+IsOfCommit name.Other seen = ⊥
 
 -- a staged file is noted
 abbrev pub kept_after : LogName → List ℕ → Knowledge → Knowledge
@@ -133,6 +158,7 @@ IsShown name.Other published = Unit {0}
 pub record WholeLearnt (tells : Bool) (n : LogName) (text : List ℕ) (k m : Knowledge) : Type 0 where
   pub same : m ≡ record (kept_after n text k) { published = m.published; gets = k.gets + 1 }
   pub published_before : k.published ≤ m.published
+  pub leaves : ¬ (IsOfCommit n k.seen) → m.published ≡ k.published
   pub published : IsShown n m.published
   pub due : IsTrue tells → IsDue n text m.seen
 
@@ -147,6 +173,7 @@ IsMissing name.Other k m = Unit {0}
 pub record AbsentLearnt (tells : Bool) (n : LogName) (k m : Knowledge) : Type 0 where
   pub same : m ≡ record k { published = m.published; absents = k.absents ++ n ∷ []; gets = k.gets + 1 }
   pub published_before : k.published ≤ m.published
+  pub leaves : ¬ (IsOfCommit n k.seen) → m.published ≡ k.published
   pub missing : IsTrue tells → IsMissing n k m
 
 abbrev pub LearnsGet : Bool → LogName → Knowledge → Result Bytes StepFault → Knowledge → Type 0

@@ -12,6 +12,7 @@ pub mod Noting
 pub mod Sharing
 pub mod Noted
 pub mod Outcome
+pub mod After
 pub mod Alone
 pub use Rattle.log_names.specs.Texts
 pub use Rattle.log_names.specs.Reading

@@ -4,7 +4,7 @@ use Rattle.table_model.specs.World.{WorldData, log_of}
 use Rattle.table_model.specs.Knowledge.{Knowledge, newcomer}
 use Rattle.table_model.specs.Holding.{terms_of}
 use Rattle.table_model.specs.Learned.{list_learned, stage_learned, publish_learned, clear_learned}
-use Rattle.table_model.specs.Noting.{commits_noted, get_noted, ratify_noted, report_noted}
+use Rattle.table_model.specs.Noting.{commits_noted, lookup_noted, get_noted, ratify_noted, report_noted}
 use Rattle.table_model.specs.Sharing.{split_known, both_known}
 use Rattle.table_model.specs.declared.text.Text.{Text, End, Longer'}
 use Rattle.table_model.specs.declared.told.Told.{Told}
@@ -19,6 +19,7 @@ bytes_of (Longer' m front last) = bytes_of front ++ last.value ∷ []
 abbrev pub noted_of : Told → Knowledge
 noted_of told.Nothing = newcomer
 noted_of (told.Commits' m past reported) = commits_noted reported (noted_of past)
+noted_of (told.Looked' m past) = lookup_noted (noted_of past)
 noted_of (told.Listed' m past answer) = list_learned (noted_of past) answer.value
 noted_of (told.Got' m past name answer is_seen) = get_noted name is_seen (noted_of past) answer.value
 noted_of (told.Staged' m past version id text answer) = stage_learned version id (bytes_of text) (noted_of past) answer

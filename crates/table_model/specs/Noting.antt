@@ -18,6 +18,9 @@ use Rattle.table_model.specs.Learned.{published_by, fault_learned}
 abbrev pub commits_noted : ℕ → Knowledge → Knowledge
 commits_noted reported k = record k { published = max k.published reported; reported = reported; heard = k.heard ++ reported ∷ []; asks = k.asks + 1 }
 
+abbrev pub lookup_noted : Knowledge → Knowledge
+lookup_noted k = record k { asks = k.asks + 1 }
+
 abbrev pub report_noted : ℕ → Knowledge → Knowledge
 report_noted answer k = record k { published = max k.published answer; reported = answer }
 

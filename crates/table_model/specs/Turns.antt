@@ -1,5 +1,5 @@
 -- What one turn answers and leaves, for each call: a relation between the world before, the answer and the world after.
-use Rattle.std.specs.Prelude.{◌≡◌, ◌<◌, ◌⊎◌, ℕ, ℤ, List, length, map, filter, max, cond, IsTrue, Bool, true, false, Result, Ok, Err, Option, Some, None, Vec}
+use Rattle.std.specs.Prelude.{◌≡◌, ◌<◌, ◌+◌, ◌⊎◌, ℕ, ℤ, List, length, map, filter, max, cond, IsTrue, Bool, true, false, Result, Ok, Err, Option, Some, None, Vec}
 use Rattle.std.specs.declared.alloc.Global.{Global}
 use Rattle.log_names.specs.declared.LogName.{LogName}
 use Rattle.log_names.specs.declared.LogName.TheVariants as name
@@ -7,6 +7,7 @@ use Rattle.log_names.specs.Reading.{name_of}
 use Rattle.commit_catalog.specs.declared.Commits.{Commits}
 use Rattle.commit_catalog.specs.declared.Ratify.{Ratify}
 use Rattle.commit_catalog.specs.declared.Entry.{Entry}
+use Rattle.commit_catalog.specs.Records.{ratified_at}
 use Rattle.commit_catalog.specs.Ratifying.{RatifyAnswers, records_after, TellsCommits}
 use Rattle.object_store.specs.Files.{Files, names_of}
 use Rattle.object_store.specs.declared.store.Put.{Put}
@@ -19,19 +20,20 @@ use Rattle.table_model.specs.declared.answers.Spot.{Spot}
 use Rattle.table_model.specs.declared.answers.Spot.TheVariants as spot
 use Rattle.table_model.specs.declared.answers.StepFault.{StepFault}
 use Rattle.table_model.specs.declared.answers.StepFault.TheVariants.{Fault, Memory}
+use Rattle.table_model.specs.declared.answers.Looked.{Looked}
 use Rattle.table_model.specs.declared.answers.Staged.{Staged}
 use Rattle.table_model.specs.declared.answers.Staged.TheVariants as staged
 use Rattle.table_model.specs.Files.{file_at}
 use Rattle.table_model.specs.World.{WorldData, entry_at, stands, told_put, told_drop}
 
--- the store failed: its count rose, and all else is as before
+-- the store failed: its count rose by one, and all else is as before
 pub record IsFailed (w x : WorldData) : Type 0 where
-  pub rose : w.tally < x.tally
+  pub rose : x.tally ≡ w.tally + 1
   pub same : x ≡ record w { tally = x.tally }
 
--- the store failed: its count rose, and the files are as before, or as if the call had been done whole
+-- the store failed: its count rose by one, and the files are as before, or as if the call had been done whole
 pub record IsInDoubt (w done x : WorldData) : Type 0 where
-  pub rose : w.tally < x.tally
+  pub rose : x.tally ≡ w.tally + 1
   pub files : (x ≡ record w { tally = x.tally }) ⊎ (x ≡ record done { tally = x.tally })
 
 -- a refused turn that reaches no store: want of memory alone, and nothing changed
@@ -53,6 +55,16 @@ IsFailedWrite where_at w done (Fault at) x = (at ≡ where_at) × IsInDoubt w do
 abbrev pub CommitsTurn : WorldData → Result Commits StepFault → WorldData → Type 0
 CommitsTurn w (Ok c) x = TellsCommits w.records w.reported c × (x ≡ w)
 CommitsTurn w (Err e) x = IsRefused w e x
+
+-- what the catalogue has of one version, and how many versions there are
+pub record Looks (w : WorldData) (version : ℕ) (a : Looked) (x : WorldData) : Type 0 where
+  pub found : a.found ≡ ratified_at w.records version
+  pub count : a.count ≡ length w.records
+  pub same : x ≡ w
+
+abbrev pub LookupTurn : ℕ → WorldData → Result Looked StepFault → WorldData → Type 0
+LookupTurn version w (Ok a) x = Looks w version a x
+LookupTurn version w (Err e) x = IsRefused w e x
 
 -- the names of the log that stand, in byte order of their texts
 abbrev pub is_log_name : LogName → Bool

@@ -12,13 +12,14 @@ use Rattle.table_model.specs.Log.{Commit}
 use Rattle.table_model.specs.Files.{file_at, put_at, drop_at, stands_at}
 
 -- the ratified commits in the order of their versions; the number of versions that were reported as published;
--- the files that the store tells of; by how much its count of faults has risen since the world was made;
--- and whether the store tells what it holds: the told files of one that does not never change
+-- the files that the store tells of; its count of faults when it was handed in, and by how much that has
+-- risen since; and whether the store tells what it holds: the told files of one that does not never change
 pub record WorldData : Type 0 where
   pub records : List Entry
   pub reported : ℕ
   pub limits : Limits
   pub files : Files
+  pub first : ℕ
   pub tally : ℕ
   pub tells : Bool
 

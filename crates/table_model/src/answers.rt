@@ -15,7 +15,7 @@ pub enum Spot {
 /// Why a turn was refused.
 #[derive(Clone, Copy, Debug, PartialEq, Eq)]
 pub enum StepFault {
-    /// The store failed at this spot: its count of faults rose in this turn.
+    /// The store failed at this spot: its count of faults rose by one in this turn.
     Fault { spot: Spot },
     /// Want of memory: nothing changed.
     Memory,

@@ -4,7 +4,9 @@
 
 mod answers;
 mod known;
+pub mod laws;
 mod notes;
+mod snapshot;
 mod steps;
 mod text;
 mod told;
@@ -15,6 +17,7 @@ pub use known::{Clearing, Mark, Refusal, Try};
 pub use log_names::LogName;
 pub use notes::Notes;
 pub use object_store::{Bytes, Gone, Put};
+pub use snapshot::Snapshot;
 pub use steps::Steps;
 pub use text::Text;
 pub use told::Told;

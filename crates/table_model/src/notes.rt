@@ -5,7 +5,7 @@ ghost use Rattle.table_model.specs.World.{WorldData};
 ghost use Rattle.table_model.specs.Holding.{HoldsIn};
 ghost use Rattle.table_model.specs.Knowledge.{newcomer};
 ghost use Rattle.table_model.specs.Learned.{list_learned, stage_learned, publish_learned, clear_learned};
-ghost use Rattle.table_model.specs.Noting.{commits_noted, get_noted, ratify_noted, report_noted};
+ghost use Rattle.table_model.specs.Noting.{commits_noted, lookup_noted, get_noted, ratify_noted, report_noted};
 ghost use Rattle.table_model.specs.Sharing.{split_known, both_known};
 
 use crate::answers::{Staged, StepFault};
@@ -44,6 +44,15 @@ impl Notes {
     {
         self.seen = count;
         self.told = Told::Commits(Snapshot::of(&self.told), reported);
+    }
+
+    /// Notes how many commits there are, as the catalogue told beside one of them.
+    pub fn note_lookup(&mut self, count: u64)
+        ensures seen { self.new.seen ≡ count }
+        ensures noted { noted self.new ≡ lookup_noted (noted self.old) }
+    {
+        self.seen = count;
+        self.told = Told::Looked(Snapshot::of(&self.told));
     }
 
     /// Notes the answer to a turn that lists.

@@ -2,12 +2,13 @@ ghost use Rattle.std.specs.Prelude.{◌≡◌, ◌<◌, ℕ, List, length, Bool,
 ghost use Rattle.log_names.specs.Texts.{name_text};
 ghost use Rattle.commit_catalog.specs.Records.{AreLimits};
 ghost use Rattle.table_model.specs.World.{WorldData};
-ghost use Rattle.table_model.specs.Turns.{TellsTurn, CommitsTurn, ListTurn, GetTurn, StageTurn, RatifyTurn, PublishTurn, ReportTurn, ClearTurn};
+ghost use Rattle.table_model.specs.Turns.{TellsTurn, CommitsTurn, LookupTurn, ListTurn, GetTurn, StageTurn, RatifyTurn, PublishTurn, ReportTurn, ClearTurn};
 ghost use Rattle.table_model.specs.Knowledge.{Knowledge, IsGrown, IsValid};
+ghost use Rattle.table_model.specs.Holding.{HoldsInTold};
 ghost use Rattle.table_model.specs.Conditions.{MayRatify, MayPublish, MayReport, MayClear};
-ghost use Rattle.table_model.specs.Learning.{LearnsCommits, LearnsList, LearnsGet, LearnsStage, LearnsRatify, LearnsPublish, LearnsReport, LearnsClear};
+ghost use Rattle.table_model.specs.Learning.{LearnsCommits, LearnsLookup, LearnsList, LearnsGet, LearnsStage, LearnsRatify, LearnsPublish, LearnsReport, LearnsClear};
 
-use crate::answers::{Staged, StepFault};
+use crate::answers::{Looked, Staged, StepFault};
 use commit_catalog::{Commits, Limits, Ratify};
 use log_names::LogName;
 use object_store::{Bytes, Gone, Put};
@@ -35,7 +36,8 @@ pub trait Steps {
     fn limits(&self) -> Limits
         ensures bounds { AreLimits result }
         ensures terms { (known self.now).terms ≡ Some (record { limits = result; tells = tells }) }
-        ensures valid { IsValid (known self.now) };
+        ensures valid { IsValid (known self.now) }
+        ensures told { HoldsInTold (world self.now) (known self.now) };
 
     /// The number of ratified versions, the reported number, and the ratified versions from there up.
     fn commits(&mut self, alloc: Global) -> Result<Commits, StepFault>
@@ -43,6 +45,16 @@ pub trait Steps {
         ensures learns { LearnsCommits tells (known self.old) result (known self.new) }
         ensures grows { IsGrown (known self.old) (known self.new) }
         ensures valid { IsValid (known self.new) }
+        ensures told { HoldsInTold (world self.new) (known self.new) }
+        ensures after { after self.old self.new };
+
+    /// The ratified commit of a version, if there is one, and the number of ratified versions.
+    fn lookup(&mut self, alloc: Global, version: u64) -> Result<Looked, StepFault>
+        ensures turn { TellsTurn (λ w x. LookupTurn version w result x) (world self.old) (world self.new) }
+        ensures learns { LearnsLookup tells version (known self.old) result (known self.new) }
+        ensures grows { IsGrown (known self.old) (known self.new) }
+        ensures valid { IsValid (known self.new) }
+        ensures told { HoldsInTold (world self.new) (known self.new) }
         ensures after { after self.old self.new };
 
     /// The names of the log in its folder, in byte order; other files are left out.
@@ -51,6 +63,7 @@ pub trait Steps {
         ensures learns { LearnsList tells (known self.old) result (known self.new) }
         ensures grows { IsGrown (known self.old) (known self.new) }
         ensures valid { IsValid (known self.new) }
+        ensures told { HoldsInTold (world self.new) (known self.new) }
         ensures after { after self.old self.new };
 
     /// The file of a name that has a text.
@@ -60,6 +73,7 @@ pub trait Steps {
         ensures learns { LearnsGet tells name (known self.old) result (known self.new) }
         ensures grows { IsGrown (known self.old) (known self.new) }
         ensures valid { IsValid (known self.new) }
+        ensures told { HoldsInTold (world self.new) (known self.new) }
         ensures after { after self.old self.new };
 
     /// Stages a commit for a version under an id (Delta protocol, "Catalog-managed Tables", staged commits).
@@ -74,6 +88,7 @@ pub trait Steps {
         ensures learns { LearnsStage version id bytes.now (known self.old) result (known self.new) }
         ensures grows { IsGrown (known self.old) (known self.new) }
         ensures valid { IsValid (known self.new) }
+        ensures told { HoldsInTold (world self.new) (known self.new) }
         ensures after { after self.old self.new };
 
     /// Asks the catalogue to ratify a staged commit as a version. The caller knows the staged bytes and the versions
@@ -90,6 +105,7 @@ pub trait Steps {
         ensures learns { LearnsRatify tells version id (known self.old) result (known self.new) }
         ensures grows { IsGrown (known self.old) (known self.new) }
         ensures valid { IsValid (known self.new) }
+        ensures told { HoldsInTold (world self.new) (known self.new) }
         ensures after { after self.old self.new };
 
     /// Publishes a ratified version: puts its bytes under its published name (Delta protocol, "Catalog-managed
@@ -100,6 +116,7 @@ pub trait Steps {
         ensures learns { LearnsPublish version (known self.old) result (known self.new) }
         ensures grows { IsGrown (known self.old) (known self.new) }
         ensures valid { IsValid (known self.new) }
+        ensures told { HoldsInTold (world self.new) (known self.new) }
         ensures after { after self.old self.new };
 
     /// Reports to the catalogue that the versions below `count` are published; the answer is the reported number.
@@ -109,6 +126,7 @@ pub trait Steps {
         ensures learns { LearnsReport count (known self.old) result (known self.new) }
         ensures grows { IsGrown (known self.old) (known self.new) }
         ensures valid { IsValid (known self.new) }
+        ensures told { HoldsInTold (world self.new) (known self.new) }
         ensures after { after self.old self.new };
 
     /// Clears the staged file of a version, which the caller knows to be reported.
@@ -118,6 +136,7 @@ pub trait Steps {
         ensures learns { LearnsClear version id (known self.old) result (known self.new) }
         ensures grows { IsGrown (known self.old) (known self.new) }
         ensures valid { IsValid (known self.new) }
+        ensures told { HoldsInTold (world self.new) (known self.new) }
         ensures after { after self.old self.new };
 
     ghost after_same: { (a : Self) → after a a };

@@ -11,6 +11,7 @@ use std::snapshot::Snapshot;
 pub enum Told {
     Nothing,
     Commits(Snapshot<Told>, u64),
+    Looked(Snapshot<Told>),
     Listed(Snapshot<Told>, Snapshot<Result<Vec<LogName>, StepFault>>),
     Got(Snapshot<Told>, LogName, Snapshot<Result<Bytes, StepFault>>, bool),
     Staged(Snapshot<Told>, u64, u128, Text, Result<Staged, StepFault>),

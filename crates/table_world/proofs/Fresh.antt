@@ -43,40 +43,41 @@ nothing_stands files n t none text log there =
     let p = listed_text files n t text there in
     found_first (names_of files) t p.0 (ap is_log_name p.1 ∙ log) none
 
-no_log : (limits : Limits) (files : Files) (tells : Bool) → IsSound (log_of (fresh_world limits files tells))
+no_log : (limits : Limits) (files : Files) (first : ℕ) (tells : Bool) → IsSound (log_of (fresh_world limits files first tells))
 unfolding commits_from
-no_log limits files tells = sound-nil
+no_log limits files first tells = sound-nil
 
-fresh_filed : (limits : Limits) (files : Files) (tells : Bool) → first_log_name (names_of files) ≡ None → IsFiled (fresh_world limits files tells)
-fresh_filed limits files tells none = record {
+fresh_filed : (limits : Limits) (files : Files) (first : ℕ) (tells : Bool) → first_log_name (names_of files) ≡ None → IsFiled (fresh_world limits files first tells)
+fresh_filed limits files first tells none = record {
   ratified = λ version there. absurd (nothing_stands files (name.Published version) (published_text version) none refl refl there);
   leading = λ version below there less. absurd (nothing_stands files (name.Published version) (published_text version) none refl refl there);
   reported = λ version less. absurd (omega arith);
   kept = λ version less. absurd (omega arith);
   equal = λ version p s less e g. absurd (omega arith);
-  sound = no_log limits files tells;
+  sound = no_log limits files first tells;
   times = λ version less. absurd (omega arith);
   checkpoints = λ version id there. absurd (nothing_stands files (name.Checkpoint version id) (checkpoint_text version id) none refl refl there);
 }
 
-pub fresh_consistent : (limits : Limits) (files : Files) (tells : Bool) → AreLimits limits → (IsTrue tells → first_log_name (names_of files) ≡ None)
-    → IsConsistent (fresh_world limits files tells)
-fresh_consistent limits files tells are none = record {
+pub fresh_consistent : (limits : Limits) (files : Files) (first : ℕ) (tells : Bool) → AreLimits limits → (IsTrue tells → first_log_name (names_of files) ≡ None)
+    → IsConsistent (fresh_world limits files first tells)
+fresh_consistent limits files first tells are none = record {
   sized = record { bounds = are; reported = omega arith; versions = omega arith; unpublished = omega arith };
-  filed = λ told. fresh_filed limits files tells (none told);
+  filed = λ told. fresh_filed limits files first tells (none told);
 }
 
 monus_self : (n : ℕ) → n - n ≡ 0
 monus_self n = omega arith
 
-pub fresh_is : (c : CatalogData) (limits : Limits) (files new : Files) (count first : ℕ) (tells : Bool)
-    → c ≡ record { records = []; reported = 0; limits = limits; room = 0 } → new ≡ files → first ≡ count
-    → world_of c new count first tells ≡ fresh_world limits files tells
-fresh_is c limits files new count first tells empty same now =
+pub fresh_is : (c : CatalogData) (limits : Limits) (files new : Files) (count first before : ℕ) (tells : Bool)
+    → c ≡ record { records = []; reported = 0; limits = limits; room = 0 } → new ≡ files → count ≡ before → first ≡ before
+    → world_of c new count first tells ≡ fresh_world limits files before tells
+fresh_is c limits files new count first before tells empty same counted handed =
     ap (λ (x : CatalogData). world_of x new count first tells) empty
-    ∙ ap (λ (x : Files). let w : WorldData = record { records = []; reported = 0; limits = limits; files = x; tally = count - first; tells = tells } in w) same
-    ∙ ap (λ (n : ℕ). let w : WorldData = record { records = []; reported = 0; limits = limits; files = files; tally = n; tells = tells } in w)
-    (ap (λ (n : ℕ). count - n) now ∙ monus_self count)
+    ∙ ap (λ (x : Files). let w : WorldData = record { records = []; reported = 0; limits = limits; files = x; first = first; tally = count - first; tells = tells } in w) same
+    ∙ ap (λ (n : ℕ). let w : WorldData = record { records = []; reported = 0; limits = limits; files = files; first = n; tally = count - n; tells = tells } in w) handed
+    ∙ ap (λ (n : ℕ). let w : WorldData = record { records = []; reported = 0; limits = limits; files = files; first = before; tally = n; tells = tells } in w)
+    (ap (λ (n : ℕ). n - before) counted ∙ monus_self before)
 
 -- a text that is a name of the log is short
 pub log_name_short : (text : List ℕ) → name_of text ≢ name.Other → length text ≤ 78
@@ -85,13 +86,13 @@ log_name_short text differ = elim (name_of-meaning text) [
   | inr other ↦ absurd (differ other.0)
 ]
 
-pub same_count : (count first : ℕ) → first ≡ count → first ≤ count
-same_count count first e = omega arith
+pub same_count : (count first before : ℕ) → count ≡ before → first ≡ before → first ≤ count
+same_count count first before e f = omega arith
 
 -- nothing was put, and nothing stands
-pub fresh_put : (limits : Limits) (files : Files) (tells : Bool) → first_log_name (names_of files) ≡ None
-    → HasPutAll (record { world = fresh_world limits files tells; known = at_start (terms_of (fresh_world limits files tells)) })
-fresh_put limits files tells none = record {
+pub fresh_put : (limits : Limits) (files : Files) (first : ℕ) (tells : Bool) → first_log_name (names_of files) ≡ None
+    → HasPutAll (record { world = fresh_world limits files first tells; known = at_start (terms_of (fresh_world limits files first tells)) })
+fresh_put limits files first tells none = record {
   staged = λ version id there. absurd (nothing_stands files (name.Staged version id) (staged_text version id) none refl refl there);
   known = λ version id text c. absurd (omega (arith, c.1));
   ratified = λ version less. absurd (omega (arith, less));

@@ -29,14 +29,14 @@ use Rattle.table_model.proofs.Ratifying.{outcome-ratify}
 use Rattle.table_model.proofs.Calls.{outcome-stage, outcome-publish, outcome-report, outcome-clear}
 
 pub kept_list : (w x : WorldData) (r : Result (Vec LogName Global) StepFault) → IsConsistent w → ListTurn w r x → IsConsistent x
-kept_list w x r c t = (outcome-list w x newcomer r c (holds-newcomer w) t).consistent
+kept_list w x r c t = (outcome-list w x newcomer r c (holds-newcomer w) t).turn.consistent
 
 pub kept_get : (n : LogName) (w x : WorldData) (r : Result Bytes StepFault) → IsConsistent w → GetTurn n w r x → IsConsistent x
-kept_get n w x r c t = (outcome-get n w x newcomer r c (holds-newcomer w) t).consistent
+kept_get n w x r c t = (outcome-get n w x newcomer r c (holds-newcomer w) t).turn.consistent
 
 pub kept_stage : (version id : ℕ) (text : List ℕ) (w x : WorldData) (r : Result Staged StepFault) → IsConsistent w → version < 2 ^ 64 → id < 2 ^ 128
     → StageTurn version id text w r x → IsConsistent x
-kept_stage version id text w x r c small tiny t = (outcome-stage version id text w x newcomer r c (holds-newcomer w) small tiny t).consistent
+kept_stage version id text w x r c small tiny t = (outcome-stage version id text w x newcomer r c (holds-newcomer w) small tiny t).turn.consistent
 
 abbrev pub Ratifiable : ℕ → ℕ → ℤ → WorldData → Type 0
 Ratifiable version id time w = (k : Knowledge) × HoldsIn w k × MayRatify w.tells k version id time
@@ -52,18 +52,18 @@ Clearable version w = (k : Knowledge) × HoldsIn w k × MayClear k version
 
 pub kept_ratify : (version id : ℕ) (time : ℤ) (w x : WorldData) (r : Result Ratify StepFault) → IsConsistent w → Ratifiable version id time w
     → RatifyTurn version id time w r x → IsConsistent x
-kept_ratify version id time w x r c m t = (outcome-ratify version id time w x m.0 r c m.1 m.2 t).consistent
+kept_ratify version id time w x r c m t = (outcome-ratify version id time w x m.0 r c m.1 m.2 t).turn.consistent
 
 pub kept_publish : (version : ℕ) (text : List ℕ) (w x : WorldData) (r : Result Put StepFault) → IsConsistent w → version < 2 ^ 64 → Publishable version text w
     → PublishTurn version text w r x → IsConsistent x
-kept_publish version text w x r c small m t = (outcome-publish version text w x m.0 r c m.1 small m.2 t).consistent
+kept_publish version text w x r c small m t = (outcome-publish version text w x m.0 r c m.1 small m.2 t).turn.consistent
 
 pub kept_report : (count : ℕ) (w x : WorldData) (r : Result ℕ StepFault) → IsConsistent w → Reportable count w → ReportTurn count w r x → IsConsistent x
-kept_report count w x r c m t = (outcome-report count w x m.0 r c m.1 m.2 t).consistent
+kept_report count w x r c m t = (outcome-report count w x m.0 r c m.1 m.2 t).turn.consistent
 
 pub kept_clear : (version id : ℕ) (w x : WorldData) (r : Result Gone StepFault) → IsConsistent w → version < 2 ^ 64 → id < 2 ^ 128 → Clearable version w
     → ClearTurn version id w r x → IsConsistent x
-kept_clear version id w x r c small tiny m t = (outcome-clear version id w x m.0 r c m.1 small tiny m.2 t).consistent
+kept_clear version id w x r c small tiny m t = (outcome-clear version id w x m.0 r c m.1 small tiny m.2 t).turn.consistent
 
 -- the version of a ratification is at most the number of commits
 pub ratifiable_below : (version id : ℕ) (time : ℤ) (w : WorldData) → Ratifiable version id time w → version ≤ length w.records

@@ -1,5 +1,5 @@
 -- What the store did, as a turn of the world.
-use Rattle.std.proofs.Common.{◌≡◌, ◌<◌, ◌≤◌, ◌-◌, inl, inr, ℕ, Bool, true, false, cond, List, refl, sym, ◌∙◌, ap, subst, arith, Option, Some, None, IsTrue, filter, map}
+use Rattle.std.proofs.Common.{◌≡◌, ◌≤◌, ◌+◌, ◌-◌, inl, inr, ℕ, Bool, true, false, cond, List, refl, sym, ◌∙◌, ap, subst, arith, Option, Some, None, IsTrue, filter, map}
 use Rattle.std.specs.Prelude.{is_some, IsSome, Result, Ok, Err, IfSome, Vec, MatchResult}
 use Rattle.std.specs.declared.alloc.Global.{Global}
 use Rattle.log_names.specs.declared.LogName.{LogName}
@@ -33,10 +33,10 @@ same_world : (c : CatalogData) (files new : Files) (count now first : ℕ) (tell
 same_world c files new count now first tells e f =
     ap (λ (x : Files). world_of c x now first tells) e ∙ ap (λ (n : ℕ). world_of c files n first tells) f
 
-rose : (count now first : ℕ) → first ≤ count → count < now → count - first < now - first
+rose : (count now first : ℕ) → first ≤ count → now ≡ count + 1 → now - first ≡ count - first + 1
 rose count now first le less = omega arith
 
-pub read_failed : (c : CatalogData) (files new : Files) (count now first : ℕ) (tells : Bool) → first ≤ count → new ≡ files → count < now
+pub read_failed : (c : CatalogData) (files new : Files) (count now first : ℕ) (tells : Bool) → first ≤ count → new ≡ files → now ≡ count + 1
     → IsFailed (world_of c files count first tells) (world_of c new now first tells)
 read_failed c files new count now first tells le e less = record {
   rose = rose count now first le less;
@@ -114,7 +114,7 @@ in_record true w files n = refl
 in_record false w files n = refl
 
 pub put_failed : (c : CatalogData) (files new : Files) (count now first : ℕ) (tells : Bool) (n : LogName) (text bytes : List ℕ) → IsTextOf n text
-    → first ≤ count → HalfDone tells files (put_whole files text bytes) new → count < now
+    → first ≤ count → HalfDone tells files (put_whole files text bytes) new → now ≡ count + 1
     → IsInDoubt (world_of c files count first tells) (after_put (world_of c files count first tells) n bytes) (world_of c new now first tells)
 put_failed c files new count now first tells n text bytes t le h less = record {
   rose = rose count now first le less;
@@ -155,7 +155,7 @@ delete_absent c files new count now first tells n text t h f = record {
 }
 
 pub delete_failed : (c : CatalogData) (files new : Files) (count now first : ℕ) (tells : Bool) (n : LogName) (text : List ℕ) → IsTextOf n text
-    → first ≤ count → HalfDone tells files (without_file files text) new → count < now
+    → first ≤ count → HalfDone tells files (without_file files text) new → now ≡ count + 1
     → IsInDoubt (world_of c files count first tells) (told_drop (world_of c files count first tells) n) (world_of c new now first tells)
 delete_failed c files new count now first tells n text t le h less = record {
   rose = rose count now first le less;

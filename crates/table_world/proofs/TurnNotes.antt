@@ -14,7 +14,6 @@ use Rattle.table_model.specs.Log.{Commit, commit_at}
 use Rattle.table_model.specs.Consistency.{IsConsistent}
 use Rattle.table_model.specs.Knowledge.{Knowledge, Terms, IsGrown, IsValid, newcomer, at_start}
 use Rattle.table_model.specs.Holding.{HoldsIn, IsLater, terms_of}
-use Rattle.table_model.specs.Outcome.{Outcome}
 use Rattle.std.proofs.Common.{◌^◌}
 use Rattle.std.specs.Prelude.{Vec}
 use Rattle.std.proofs.lemmas.List.{get_or-take}
@@ -32,14 +31,15 @@ use Rattle.object_store.specs.declared.store.Put.{Put}
 use Rattle.object_store.specs.declared.store.Gone.{Gone}
 use Rattle.table_model.specs.declared.answers.StepFault.{StepFault}
 use Rattle.table_model.specs.declared.answers.StepFault.TheVariants.{Fault, Memory}
+use Rattle.table_model.specs.declared.answers.Looked.{Looked}
 use Rattle.table_model.specs.declared.answers.Staged.{Staged}
 use Rattle.table_model.specs.declared.answers.Staged.TheVariants as staged
-use Rattle.table_model.specs.Turns.{CommitsTurn, ListTurn, GetTurn, StageTurn, RatifyTurn, PublishTurn, ReportTurn, ClearTurn}
+use Rattle.table_model.specs.Turns.{CommitsTurn, LookupTurn, ListTurn, GetTurn, StageTurn, RatifyTurn, PublishTurn, ReportTurn, ClearTurn}
 use Rattle.table_model.specs.Conditions.{MayRatify, MayPublish, MayReport, MayClear}
-use Rattle.table_model.specs.Learning.{LearnsCommits, LearnsList, LearnsGet, LearnsStage, LearnsRatify, LearnsPublish, LearnsReport, LearnsClear}
-use Rattle.table_model.specs.Learned.{commits_learned, stage_learned, publish_learned, report_learned, clear_learned}
+use Rattle.table_model.specs.Learning.{LearnsCommits, LearnsLookup, LearnsList, LearnsGet, LearnsStage, LearnsRatify, LearnsPublish, LearnsReport, LearnsClear}
+use Rattle.table_model.specs.Learned.{commits_learned, lookup_learned, stage_learned, publish_learned, report_learned, clear_learned}
 use Rattle.table_model.proofs.Outcomes.{outcome-refused}
-use Rattle.table_model.proofs.Asking.{outcome-commits, learns-commits}
+use Rattle.table_model.proofs.Asking.{outcome-commits, learns-commits, outcome-lookup, learns-lookup}
 use Rattle.table_model.proofs.Reading.{outcome-list, learns-list, outcome-get, learns-get}
 use Rattle.table_model.proofs.Ratifying.{outcome-ratify, learns-ratify}
 use Rattle.table_model.proofs.Calls.{outcome-stage, learns-stage, outcome-publish, learns-publish, outcome-report, learns-report, outcome-clear, learns-clear}
@@ -50,9 +50,9 @@ use Rattle.table_model.proofs.Worlds.{later_refl, holds-at_start}
 use Rattle.table_model.proofs.Knowing.{length-log_of, valid_of}
 use Rattle.table_model.specs.declared.notes.Notes.{Notes}
 use Rattle.table_model.specs.Noted.{noted, known_with, known_of}
-use Rattle.table_model.specs.Noting.{commits_noted, report_noted, is_seen_name, published_gone, get_noted, ratify_noted, tried}
-use Rattle.table_model.specs.Alone.{Alone, HasPutAll, IsAfter}
-use Rattle.table_model.proofs.Putting.{puts-commits, puts-list, puts-get, puts-stage, puts-ratify, puts-publish, puts-report, puts-clear}
+use Rattle.table_model.specs.Noting.{commits_noted, lookup_noted, report_noted, is_seen_name, published_gone, get_noted, ratify_noted, tried}
+use Rattle.table_model.specs.Alone.{Alone, HasPutAll, LoneOutcome, IsAloneAfter}
+use Rattle.table_model.proofs.Putting.{puts-commits, puts-lookup, puts-list, puts-get, puts-stage, puts-ratify, puts-publish, puts-report, puts-clear}
 use Rattle.table_model.proofs.Lasting.{after_outcome}
 
 abbrev alone : WorldData → Knowledge → Alone
@@ -63,18 +63,18 @@ pub record IsDone (w x : WorldData) (k m : Knowledge) : Type 0 where
   pub grows : IsGrown k m
   pub valid : IsValid m
   pub holds : HoldsIn x m
-  pub after : IsAfter (alone w k) (alone x m)
+  pub after : IsAloneAfter (alone w k) (alone x m)
 
-done_with : (w x : WorldData) (k m : Knowledge) → Outcome w x k m → (IsTrue w.tells → HasPutAll (alone w k) → HasPutAll (alone x m)) → IsDone w x k m
+done_with : (w x : WorldData) (k m : Knowledge) → LoneOutcome w x k m → (IsTrue w.tells → HasPutAll (alone w k) → HasPutAll (alone x m)) → IsDone w x k m
 done_with w x k m o puts = record {
-  grows = o.grown;
-  valid = valid_of x m o.consistent o.holds;
-  holds = o.holds;
+  grows = o.turn.grown;
+  valid = valid_of x m o.turn.consistent o.turn.holds;
+  holds = o.turn.holds;
   after = after_outcome w x k m o puts;
 }
 
 -- the same, of an equal knowledge
-pub done_as : (w x : WorldData) (k m now : Knowledge) → Outcome w x k m → (IsTrue w.tells → HasPutAll (alone w k) → HasPutAll (alone x m)) → now ≡ m → IsDone w x k now
+pub done_as : (w x : WorldData) (k m now : Knowledge) → LoneOutcome w x k m → (IsTrue w.tells → HasPutAll (alone w k) → HasPutAll (alone x m)) → now ≡ m → IsDone w x k now
 done_as w x k m now o puts e = let P : Knowledge → Type 0 = λ n. IsDone w x k n in subst P (sym e) (done_with w x k m o puts)
 
 -- the front of the log that was seen stays
@@ -148,7 +148,7 @@ ratify_noted_learned version count (ratify.Backlog latest reported) k seen w x l
 
 -- one turn, all of it
 
-has_done : (turn learns : Type 0) (w x : WorldData) (n m : Notes) (k : Knowledge) → turn → learns → Outcome w x (known_of w n) k → (IsTrue w.tells → HasPutAll (alone w (known_of w n)) → HasPutAll (alone x k))
+has_done : (turn learns : Type 0) (w x : WorldData) (n m : Notes) (k : Knowledge) → turn → learns → LoneOutcome w x (known_of w n) k → (IsTrue w.tells → HasPutAll (alone w (known_of w n)) → HasPutAll (alone x k))
     → known_of x m ≡ k → m.seen ≤ length x.records
     → HasDone turn learns w n x m
 has_done turn learns w x n m k t l o puts e le =
@@ -159,7 +159,7 @@ has_done turn learns w x n m k t l o puts e le =
       grows = d.grows;
       valid = d.valid;
       after = d.after;
-      known = record { consistent = o.consistent; holds = d.holds; seen = le };
+      known = record { consistent = o.turn.consistent; holds = d.holds; seen = le };
     }
 
 seen_later : (w x : WorldData) (n m : Notes) → IsKnownIn w n → IsLater w x → m.seen ≡ n.seen → m.seen ≤ length x.records
@@ -184,8 +184,18 @@ pub commits_done : (w x : WorldData) (n m : Notes) (c : Commits) → IsKnownIn w
 commits_done w x n m c h t e f =
     let o = outcome-commits w x (known_of w n) (Ok c) h.consistent h.holds t in
     let count : c.count ≡ length x.records = t.0.count ∙ ap (λ (y : WorldData). length y.records) (sym t.1) in
-    let is : known_of x m ≡ commits_learned (known_of w n) (Ok c) x = known_whole m _ w x c.count e f o.later count in
+    let is : known_of x m ≡ commits_learned (known_of w n) (Ok c) x = known_whole m _ w x c.count e f o.turn.later count in
     has_done _ _ w x n m _ t (moved_learns (LearnsCommits w.tells (known_of w n) (Ok c)) _ _ is (learns-commits w x (known_of w n) (Ok c) h.consistent h.holds t)) o (λ tells p. puts-commits w x (known_of w n) c t p) is (omega (arith, f, count))
+
+pub lookup_done : (version : ℕ) (w x : WorldData) (n m : Notes) (a : Looked) → IsKnownIn w n → LookupTurn version w (Ok a) x
+    → noted m ≡ lookup_noted (noted n)
+    → m.seen ≡ a.count
+    → HasDone (LookupTurn version w (Ok a) x) (LearnsLookup w.tells version (known_of w n) (Ok a) (known_of x m)) w n x m
+lookup_done version w x n m a h t e f =
+    let o = outcome-lookup version w x (known_of w n) (Ok a) h.consistent h.holds t in
+    let count : a.count ≡ length x.records = t.count ∙ ap (λ (y : WorldData). length y.records) (sym t.same) in
+    let is : known_of x m ≡ lookup_learned (known_of w n) (Ok a) x = known_whole m _ w x a.count e f o.turn.later count in
+    has_done _ _ w x n m _ t (moved_learns (LearnsLookup w.tells version (known_of w n) (Ok a)) _ _ is (learns-lookup version w x (known_of w n) (Ok a) h.consistent h.holds t)) o (λ tells p. puts-lookup version w x (known_of w n) a t p) is (omega (arith, f, count))
 
 list_moved : (k : Knowledge) (seen : ℕ) (w : WorldData) (r : Result (Vec LogName Global) StepFault) → known_with (list_learned k r) seen w ≡ list_learned (known_with k seen w) r
 list_moved k seen w (Ok names) = refl
@@ -197,8 +207,8 @@ pub list_done : (w x : WorldData) (n m : Notes) (r : Result (Vec LogName Global)
     → HasDone (ListTurn w r x) (LearnsList w.tells (known_of w n) r (known_of x m)) w n x m
 list_done w x n m r h t e f =
     let o = outcome-list w x (known_of w n) r h.consistent h.holds t in
-    let is : known_of x m ≡ list_learned (known_of w n) r = known_now m _ w x n.seen e f o.later h.seen ∙ list_moved (noted n) n.seen w r in
-    has_done _ _ w x n m _ t (moved_learns (LearnsList w.tells (known_of w n) r) _ _ is (learns-list w x (known_of w n) r h.consistent h.holds t)) o (λ tells p. puts-list w x (known_of w n) r t p) is (seen_later w x n m h o.later f)
+    let is : known_of x m ≡ list_learned (known_of w n) r = known_now m _ w x n.seen e f o.turn.later h.seen ∙ list_moved (noted n) n.seen w r in
+    has_done _ _ w x n m _ t (moved_learns (LearnsList w.tells (known_of w n) r) _ _ is (learns-list w x (known_of w n) r h.consistent h.holds t)) o (λ tells p. puts-list w x (known_of w n) r t p) is (seen_later w x n m h o.turn.later f)
 
 get_moved : (name : LogName) (k : Knowledge) (seen : ℕ) (w : WorldData) (r : Result Bytes StepFault) (is : Bool) → is ≡ is_seen_name name (take seen (log_of w))
     → known_with (get_noted name is k r) seen w ≡ get_learned name (known_with k seen w) r
@@ -211,8 +221,8 @@ pub get_done : (name : LogName) (w x : WorldData) (n m : Notes) (r : Result Byte
     → HasDone (GetTurn name w r x) (LearnsGet w.tells name (known_of w n) r (known_of x m)) w n x m
 get_done name w x n m r is h t test e f =
     let o = outcome-get name w x (known_of w n) r h.consistent h.holds t in
-    let same : known_of x m ≡ get_learned name (known_of w n) r = known_now m _ w x n.seen e f o.later h.seen ∙ get_moved name (noted n) n.seen w r is test in
-    has_done _ _ w x n m _ t (moved_learns (LearnsGet w.tells name (known_of w n) r) _ _ same (learns-get name w x (known_of w n) r h.consistent h.holds t)) o (λ tells p. puts-get name w x (known_of w n) r tells t p) same (seen_later w x n m h o.later f)
+    let same : known_of x m ≡ get_learned name (known_of w n) r = known_now m _ w x n.seen e f o.turn.later h.seen ∙ get_moved name (noted n) n.seen w r is test in
+    has_done _ _ w x n m _ t (moved_learns (LearnsGet w.tells name (known_of w n) r) _ _ same (learns-get name w x (known_of w n) r h.consistent h.holds t)) o (λ tells p. puts-get name w x (known_of w n) r tells t p) same (seen_later w x n m h o.turn.later f)
 
 stage_moved : (version id : ℕ) (text : List ℕ) (k : Knowledge) (seen : ℕ) (w : WorldData) (r : Result Staged StepFault)
     → known_with (stage_learned version id text k r) seen w ≡ stage_learned version id text (known_with k seen w) r
@@ -226,8 +236,8 @@ pub stage_done : (version id : ℕ) (text : List ℕ) (w x : WorldData) (n m : N
     → HasDone (StageTurn version id text w r x) (LearnsStage version id text (known_of w n) r (known_of x m)) w n x m
 stage_done version id text w x n m r h small tiny t e f =
     let o = outcome-stage version id text w x (known_of w n) r h.consistent h.holds small tiny t in
-    let is : known_of x m ≡ stage_learned version id text (known_of w n) r = known_now m _ w x n.seen e f o.later h.seen ∙ stage_moved version id text (noted n) n.seen w r in
-    has_done _ _ w x n m _ t (moved_learns (LearnsStage version id text (known_of w n) r) _ _ is (learns-stage version id text w x (known_of w n) r t)) o (λ tells p. puts-stage version id text w x (known_of w n) r tells small tiny t p) is (seen_later w x n m h o.later f)
+    let is : known_of x m ≡ stage_learned version id text (known_of w n) r = known_now m _ w x n.seen e f o.turn.later h.seen ∙ stage_moved version id text (noted n) n.seen w r in
+    has_done _ _ w x n m _ t (moved_learns (LearnsStage version id text (known_of w n) r) _ _ is (learns-stage version id text w x (known_of w n) r t)) o (λ tells p. puts-stage version id text w x (known_of w n) r tells small tiny t p) is (seen_later w x n m h o.turn.later f)
 
 pub ratify_done : (version id : ℕ) (time : ℤ) (w x : WorldData) (n m : Notes) (a : Ratify) → IsKnownIn w n → MayRatify w.tells (known_of w n) version id time
     → RatifyTurn version id time w (Ok a) x → noted m ≡ ratify_noted version n.seen a (noted n) → m.seen ≡ length x.records
@@ -235,7 +245,7 @@ pub ratify_done : (version id : ℕ) (time : ℤ) (w x : WorldData) (n m : Notes
 ratify_done version id time w x n m a h may t e f =
     let o = outcome-ratify version id time w x (known_of w n) (Ok a) h.consistent h.holds may t in
     let is : known_of x m ≡ ratify_learned version (known_of w n) (Ok a) x =
-    known_whole m _ w x (length x.records) e f o.later refl ∙ ratify_noted_learned version 0 a (noted n) n.seen w x h.seen in
+    known_whole m _ w x (length x.records) e f o.turn.later refl ∙ ratify_noted_learned version 0 a (noted n) n.seen w x h.seen in
     has_done _ _ w x n m _ t (moved_learns (LearnsRatify w.tells version id (known_of w n) (Ok a)) _ _ is (learns-ratify version id time w x (known_of w n) (Ok a) h.consistent h.holds may t)) o (λ tells p. puts-ratify version id time w x (known_of w n) a h.holds may t p) is (omega (arith, f))
 
 publish_moved : (version : ℕ) (k : Knowledge) (seen : ℕ) (w : WorldData) (r : Result Put StepFault) → known_with (publish_learned version k r) seen w ≡ publish_learned version (known_with k seen w) r
@@ -248,16 +258,16 @@ pub publish_done : (version : ℕ) (text : List ℕ) (w x : WorldData) (n m : No
     → HasDone (PublishTurn version text w r x) (LearnsPublish version (known_of w n) r (known_of x m)) w n x m
 publish_done version text w x n m r h small may t e f =
     let o = outcome-publish version text w x (known_of w n) r h.consistent h.holds small may t in
-    let is : known_of x m ≡ publish_learned version (known_of w n) r = known_now m _ w x n.seen e f o.later h.seen ∙ publish_moved version (noted n) n.seen w r in
-    has_done _ _ w x n m _ t (moved_learns (LearnsPublish version (known_of w n) r) _ _ is (learns-publish version text w x (known_of w n) r t)) o (λ tells p. puts-publish version text w x (known_of w n) r tells small t p) is (seen_later w x n m h o.later f)
+    let is : known_of x m ≡ publish_learned version (known_of w n) r = known_now m _ w x n.seen e f o.turn.later h.seen ∙ publish_moved version (noted n) n.seen w r in
+    has_done _ _ w x n m _ t (moved_learns (LearnsPublish version (known_of w n) r) _ _ is (learns-publish version text w x (known_of w n) r t)) o (λ tells p. puts-publish version text w x (known_of w n) r tells small t p) is (seen_later w x n m h o.turn.later f)
 
 pub report_done : (count : ℕ) (w x : WorldData) (n m : Notes) (answer : ℕ) → IsKnownIn w n → MayReport (known_of w n) count
     → ReportTurn count w (Ok answer) x → noted m ≡ report_noted answer (noted n) → m.seen ≡ n.seen
     → HasDone (ReportTurn count w (Ok answer) x) (LearnsReport count (known_of w n) (Ok answer) (known_of x m)) w n x m
 report_done count w x n m answer h may t e f =
     let o = outcome-report count w x (known_of w n) (Ok answer) h.consistent h.holds may t in
-    let is : known_of x m ≡ report_learned (known_of w n) (Ok answer) = known_now m _ w x n.seen e f o.later h.seen in
-    has_done _ _ w x n m _ t (moved_learns (LearnsReport count (known_of w n) (Ok answer)) _ _ is (learns-report count w x (known_of w n) (Ok answer) h.holds t)) o (λ tells p. puts-report count w x (known_of w n) answer t p) is (seen_later w x n m h o.later f)
+    let is : known_of x m ≡ report_learned (known_of w n) (Ok answer) = known_now m _ w x n.seen e f o.turn.later h.seen in
+    has_done _ _ w x n m _ t (moved_learns (LearnsReport count (known_of w n) (Ok answer)) _ _ is (learns-report count w x (known_of w n) (Ok answer) h.holds t)) o (λ tells p. puts-report count w x (known_of w n) answer t p) is (seen_later w x n m h o.turn.later f)
 
 clear_moved : (version id : ℕ) (k : Knowledge) (seen : ℕ) (w : WorldData) (r : Result Gone StepFault) → known_with (clear_learned version id k r) seen w ≡ clear_learned version id (known_with k seen w) r
 clear_moved version id k seen w (Ok a) = refl
@@ -269,8 +279,8 @@ pub clear_done : (version id : ℕ) (w x : WorldData) (n m : Notes) (r : Result 
     → HasDone (ClearTurn version id w r x) (LearnsClear version id (known_of w n) r (known_of x m)) w n x m
 clear_done version id w x n m r h small tiny may t e f =
     let o = outcome-clear version id w x (known_of w n) r h.consistent h.holds small tiny may t in
-    let is : known_of x m ≡ clear_learned version id (known_of w n) r = known_now m _ w x n.seen e f o.later h.seen ∙ clear_moved version id (noted n) n.seen w r in
-    has_done _ _ w x n m _ t (moved_learns (LearnsClear version id (known_of w n) r) _ _ is (learns-clear version id w x (known_of w n) r t)) o (λ tells p. puts-clear version id w x (known_of w n) r tells small tiny t p) is (seen_later w x n m h o.later f)
+    let is : known_of x m ≡ clear_learned version id (known_of w n) r = known_now m _ w x n.seen e f o.turn.later h.seen ∙ clear_moved version id (noted n) n.seen w r in
+    has_done _ _ w x n m _ t (moved_learns (LearnsClear version id (known_of w n) r) _ _ is (learns-clear version id w x (known_of w n) r t)) o (λ tells p. puts-clear version id w x (known_of w n) r tells small tiny t p) is (seen_later w x n m h o.turn.later f)
 
 -- a turn that left the world as it was, and nothing noted
 pub refused_same : (w x : WorldData) (n m : Notes) → IsKnownIn w n → x ≡ w → noted m ≡ noted n → m.seen ≡ n.seen

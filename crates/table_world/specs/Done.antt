@@ -4,7 +4,7 @@ use Rattle.table_model.specs.World.{WorldData}
 use Rattle.table_model.specs.Consistency.{IsConsistent}
 use Rattle.table_model.specs.Knowledge.{IsGrown, IsValid}
 use Rattle.table_model.specs.Holding.{HoldsIn}
-use Rattle.table_model.specs.Alone.{IsAfter}
+use Rattle.table_model.specs.Alone.{IsAloneAfter}
 use Rattle.table_model.specs.declared.notes.Notes.{Notes}
 use Rattle.table_model.specs.Noted.{known_of}
 
@@ -19,5 +19,5 @@ pub record HasDone (turn : Type 0) (learns : Type 0) (w : WorldData) (n : Notes)
   pub learnt : learns
   pub grows : IsGrown (known_of w n) (known_of x m)
   pub valid : IsValid (known_of x m)
-  pub after : IsAfter (record { world = w; known = known_of w n }) (record { world = x; known = known_of x m })
+  pub after : IsAloneAfter (record { world = w; known = known_of w n }) (record { world = x; known = known_of x m })
   pub known : IsKnownIn x m

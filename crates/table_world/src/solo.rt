@@ -6,8 +6,8 @@ ghost use Rattle.table_model.specs.Consistency.{IsConsistent};
 ghost use Rattle.table_model.specs.Knowledge.{Knowledge, IsGrown, IsValid, at_start};
 ghost use Rattle.table_model.specs.Holding.{HoldsIn, terms_of};
 ghost use Rattle.table_model.specs.Conditions.{MayRatify, MayPublish, MayReport, MayClear};
-ghost use Rattle.table_model.specs.Alone.{IsAfter};
-ghost use Rattle.table_model.proofs.Lasting.{after_refl, after_trans};
+ghost use Rattle.table_model.specs.Alone.{IsAloneAfter};
+ghost use Rattle.table_model.proofs.Lasting.{alone_refl, alone_trans};
 
 use crate::turns;
 use crate::world::World;
@@ -16,7 +16,7 @@ use log_names::LogName;
 use object_store::{Bytes, Gone, Put, Store};
 use std::alloc::Global;
 use std::marker::Model;
-use table_model::{Notes, Staged, StepFault, Steps};
+use table_model::{Looked, Notes, Staged, StepFault, Steps};
 
 /// The one caller of a world. What it knows stands beside the world, for contracts alone.
 pub struct Solo<S: Store> {
@@ -71,7 +71,7 @@ impl<S: Store> Steps for Solo<S> {
 
     ghost world = { λ s. Some s.world };
 
-    ghost after = { IsAfter };
+    ghost after = { IsAloneAfter };
 
     fn limits(&self) -> Limits {
         self.world.limits()
@@ -79,6 +79,10 @@ impl<S: Store> Steps for Solo<S> {
 
     fn commits(&mut self, _alloc: Global) -> Result<Commits, StepFault> {
         turns::commits(&mut self.world, &mut self.notes)
+    }
+
+    fn lookup(&mut self, _alloc: Global, version: u64) -> Result<Looked, StepFault> {
+        turns::lookup(&mut self.world, &mut self.notes, version)
     }
 
     fn list(&mut self, alloc: Global) -> Result<Vec<LogName>, StepFault> {
@@ -121,7 +125,7 @@ impl<S: Store> Steps for Solo<S> {
         turns::clear(&mut self.world, &mut self.notes, alloc, version, id)
     }
 
-    ghost after_same = { after_refl };
+    ghost after_same = { alone_refl };
 
-    ghost after_both = { after_trans };
+    ghost after_both = { alone_trans };
 }

@@ -2,9 +2,9 @@
 
 ghost use Rattle.std.specs.Prelude.{◌≡◌, IsSome};
 ghost use Rattle.log_names.specs.Texts.{name_text};
-ghost use Rattle.table_model.specs.Turns.{CommitsTurn, ListTurn, GetTurn, StageTurn, RatifyTurn, PublishTurn, ReportTurn, ClearTurn};
+ghost use Rattle.table_model.specs.Turns.{CommitsTurn, LookupTurn, ListTurn, GetTurn, StageTurn, RatifyTurn, PublishTurn, ReportTurn, ClearTurn};
 ghost use Rattle.table_model.specs.Conditions.{MayRatify, MayPublish, MayReport, MayClear};
-ghost use Rattle.table_model.specs.Learning.{LearnsCommits, LearnsList, LearnsGet, LearnsStage, LearnsRatify, LearnsPublish, LearnsReport, LearnsClear};
+ghost use Rattle.table_model.specs.Learning.{LearnsCommits, LearnsLookup, LearnsList, LearnsGet, LearnsStage, LearnsRatify, LearnsPublish, LearnsReport, LearnsClear};
 ghost use Rattle.table_model.specs.Noted.{known_of};
 ghost use Rattle.table_world.specs.Done.{IsKnownIn, HasDone};
 
@@ -13,7 +13,7 @@ use commit_catalog::{Commits, Ratify};
 use log_names::LogName;
 use object_store::{Bytes, Gone, Put, Store};
 use std::alloc::Global;
-use table_model::{Notes, Staged, StepFault};
+use table_model::{Looked, Notes, Staged, StepFault};
 
 /// The catalogue now.
 pub fn commits<S: Store>(world: &mut World<S>, notes: &mut Notes) -> Result<Commits, StepFault>
@@ -26,6 +26,23 @@ pub fn commits<S: Store>(world: &mut World<S>, notes: &mut Notes) -> Result<Comm
     };
     notes.note_commits(commits.count, commits.reported);
     Ok(commits)
+}
+
+/// The ratified commit of a version, if there is one, and the number of commits.
+pub fn lookup<S: Store>(
+    world: &mut World<S>,
+    notes: &mut Notes,
+    version: u64,
+) -> Result<Looked, StepFault>
+    requires known { IsKnownIn world.old notes.old }
+    ensures { HasDone (LookupTurn version world.old result world.new) (LearnsLookup world.old.tells version (known_of world.old notes.old) result (known_of world.new notes.new)) world.old notes.old world.new notes.new }
+{
+    let looked = match world.lookup(version) {
+        Ok(looked) => looked,
+        Err(fault) => return Err(fault),
+    };
+    notes.note_lookup(looked.count);
+    Ok(looked)
 }
 
 /// The names of the log in the folder.

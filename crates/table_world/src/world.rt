@@ -1,4 +1,4 @@
-ghost use Rattle.std.specs.Prelude.{◌≡◌, ◌≤◌, length, take, IfOk, IfErr, IsSome};
+ghost use Rattle.std.specs.Prelude.{◌≡◌, ◌≤◌, ◌+◌, length, take, IfOk, IfErr, IsSome};
 ghost use Rattle.table_model.specs.World.{log_of};
 ghost use Rattle.table_model.specs.Noting.{is_seen_name};
 ghost use Rattle.table_world.specs.Worlds.{first_log_name};
@@ -9,7 +9,7 @@ ghost use Rattle.table_model.specs.Consistency.{IsConsistent};
 ghost use Rattle.table_model.specs.Knowledge.{Knowledge};
 ghost use Rattle.table_model.specs.Holding.{HoldsIn};
 ghost use Rattle.table_model.specs.Conditions.{MayRatify, MayPublish, MayReport, MayClear};
-ghost use Rattle.table_model.specs.Turns.{CommitsTurn, ListTurn, GetTurn, StageTurn, RatifyTurn, PublishTurn, ReportTurn, ClearTurn};
+ghost use Rattle.table_model.specs.Turns.{CommitsTurn, LookupTurn, ListTurn, GetTurn, StageTurn, RatifyTurn, PublishTurn, ReportTurn, ClearTurn};
 
 use crate::store_turns;
 use action_types::Name;
@@ -19,7 +19,7 @@ use object_store::{Bytes, Gone, Put, Store, StoreError};
 use std::alloc::Global;
 use std::marker::Model;
 use std::snapshot::Snapshot;
-use table_model::{Staged, StepFault};
+use table_model::{Looked, Staged, StepFault};
 
 /// A table: its commit catalogue and the store of its log. Each call that reads or changes it is one turn, and leaves
 /// it consistent. For contracts alone it keeps the store as it was handed in, which takes no byte.
@@ -51,7 +51,7 @@ impl<S: Store> Model for World<S> {
 pub enum Start<S: Store> {
     /// The folder has a name of the log; the least in byte order is named.
     NotEmpty { store: S, name: NameText },
-    /// The store failed: its count of faults rose.
+    /// The store failed: its count of faults rose by one.
     Fault { store: S },
     /// Want of memory.
     Memory { store: S },
@@ -61,9 +61,10 @@ impl<S: Store> World<S> {
     /// A table without commits over a folder without names of the log. Each limit is at least 1.
     pub fn start(alloc: Global, store: S, limits: Limits) -> Result<World<S>, Start<S>>
         requires { AreLimits limits }
-        ensures ok { IfOk result (λ w. IsFresh limits (S.files store) S.tells w) }
+        ensures ok { IfOk result (λ w. IsFresh limits (S.files store) (S.faults store) S.tells w) }
         ensures err { IfErr result (StartFails S.files S.faults S.tells store) }
     {
+        let first = Snapshot::of(&store);
         let mut store = store;
         let texts = match store.list(alloc) {
             Ok(texts) => texts,
@@ -73,7 +74,6 @@ impl<S: Store> World<S> {
         if let Some(name) = least_log_name(texts.as_slice()) {
             return Err(Start::NotEmpty { store, name });
         }
-        let first = Snapshot::of(&store);
         let catalog = Catalog::new(alloc, limits);
         Ok(World {
             catalog,
@@ -88,6 +88,7 @@ impl<S: Store> World<S> {
         ensures reported { result.0.reported ≡ self.reported }
         ensures limits { result.0.limits ≡ self.limits }
         ensures files { S.files result.1 ≡ self.files }
+        ensures faults { S.faults result.1 ≡ self.first + self.tally }
     {
         let World {
             catalog,
@@ -136,6 +137,17 @@ impl<S: Store> World<S> {
         ensures consistent { IsConsistent self.new }
     {
         Ok(self.catalog.commits()?)
+    }
+
+    /// The ratified commit of a version, if there is one, and the number of commits.
+    pub fn lookup(&mut self, version: u64) -> Result<Looked, StepFault>
+        ensures turn { LookupTurn version self.old result self.new }
+        ensures consistent { IsConsistent self.new }
+    {
+        Ok(Looked {
+            found: self.catalog.find(version),
+            count: self.catalog.count(),
+        })
     }
 
     /// The names of the log in the folder, in byte order.

@@ -7,22 +7,22 @@ use Rattle.table_world.proofs.world.World.start.Goals as goal
 
 pub invariant_of-result : goal.invariant_of-result
 invariant_of-result g c =
-    let is = fresh_is c.new-catalog.result c.args.limits (g.S.Store.files c.args.store) (g.S.Store.files c.list.new.self) (g.S.Store.faults c.list.new.self) (g.S.Store.faults c.of-first.result.value) g.S.Store.tells
-    c.new-catalog.ensures.empty c.in-Ok.ensures.files (ap g.S.Store.faults c.of-first.ensures) in
+    let is = fresh_is c.new-catalog.result c.args.limits (g.S.Store.files c.args.store) (g.S.Store.files c.list.new.self) (g.S.Store.faults c.list.new.self) (g.S.Store.faults c.of-first.result.value) (g.S.Store.faults c.args.store)
+    g.S.Store.tells c.new-catalog.ensures.empty c.in-Ok.ensures.files c.in-Ok.ensures.counts (ap g.S.Store.faults c.of-first.ensures) in
     let P : WorldData → Type 0 = IsConsistent in (
-      subst P (sym is) (fresh_consistent c.args.limits (g.S.Store.files c.args.store) g.S.Store.tells c.requires
+      subst P (sym is) (fresh_consistent c.args.limits (g.S.Store.files c.args.store) (g.S.Store.faults c.args.store) g.S.Store.tells c.requires
           (λ tells. sym (c.in_default.ensures ∙ ap first_log_name (c.as_slice.ensures.value ∙ c.in-Ok.ensures.told tells)))),
-      same_count _ _ (ap g.S.Store.faults c.of-first.ensures),
+      same_count _ _ _ c.in-Ok.ensures.counts (ap g.S.Store.faults c.of-first.ensures),
     )
 
 pub returns-clause-ok : goal.returns-clause-ok
 returns-clause-ok g c =
-    let is = fresh_is c.new-catalog.result c.args.limits (g.S.Store.files c.args.store) (g.S.Store.files c.list.new.self) (g.S.Store.faults c.list.new.self) (g.S.Store.faults c.of-first.result.value) g.S.Store.tells
-    c.new-catalog.ensures.empty c.in-Ok.ensures.files (ap g.S.Store.faults c.of-first.ensures) in
+    let is = fresh_is c.new-catalog.result c.args.limits (g.S.Store.files c.args.store) (g.S.Store.files c.list.new.self) (g.S.Store.faults c.list.new.self) (g.S.Store.faults c.of-first.result.value) (g.S.Store.faults c.args.store)
+    g.S.Store.tells c.new-catalog.ensures.empty c.in-Ok.ensures.files c.in-Ok.ensures.counts (ap g.S.Store.faults c.of-first.ensures) in
     let P : WorldData → Type 0 = IsConsistent in
     record {
       is = is;
-      consistent = subst P (sym is) (fresh_consistent c.args.limits (g.S.Store.files c.args.store) g.S.Store.tells c.requires
+      consistent = subst P (sym is) (fresh_consistent c.args.limits (g.S.Store.files c.args.store) (g.S.Store.faults c.args.store) g.S.Store.tells c.requires
           (λ tells. sym (c.in_default.ensures ∙ ap first_log_name (c.as_slice.ensures.value ∙ c.in-Ok.ensures.told tells))));
       empty = λ tells. sym (c.in_default.ensures ∙ ap first_log_name (c.as_slice.ensures.value ∙ c.in-Ok.ensures.told tells));
     }
