@@ -51,7 +51,7 @@ answer_later tells (Err e) j k m g h = cause_later tells e j k m g h
 pub table_cause : (tells : Bool) (e : PublishError) (j k m : Knowledge) → IsGrown j k → 0 < length m.seen → TurnCause tells e k m → PublishCause tells e j m
 table_cause tells NoTable j k m g some h = absurd h
 table_cause tells (Fault at) j k m g some h = (fault_later tells at j k m g h, some)
-table_cause tells Memory j k m g some h = tt
+table_cause tells Memory j k m g some h = λ more. some
 
 -- what was seen is not fewer later
 pub seen_more : (k m : Knowledge) → IsGrown k m → length k.seen ≤ length m.seen

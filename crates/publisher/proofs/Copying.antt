@@ -1,7 +1,8 @@
 -- Publishing version after version: what stays.
-use Rattle.std.proofs.Common.{◌≡◌, ◌+◌, ◌*◌, ℕ, ◌∙◌, ap, subst, arith}
+use Rattle.std.proofs.Common.{◌≡◌, ◌≤◌, ◌+◌, ◌-◌, ◌*◌, ℕ, ◌∙◌, ap, subst, arith, length}
 use Rattle.table_model.specs.Knowledge.{Knowledge}
-use Rattle.publisher.specs.Publishing.{OnlyCopies}
+use Rattle.publisher.specs.Publishing.{OnlyCopies, KeepsBelow}
+use Rattle.publisher.proofs.Keeping.{keeps_both}
 
 copies_more : (n p : ℕ) (j k m : Knowledge) → OnlyCopies n j k → OnlyCopies p k m → OnlyCopies (n + p) j m
 copies_more n p j k m g h = record {
@@ -10,5 +11,17 @@ copies_more n p j k m g h = record {
 }
 
 -- one version more
-pub copies_version : (version : ℕ) (j k m : Knowledge) → OnlyCopies (2 * version) j k → OnlyCopies 2 k m → OnlyCopies (2 * (version + 1)) j m
-copies_version version j k m g h = subst (λ (x : ℕ). OnlyCopies x j m) (let e : 2 * version + 2 ≡ 2 * (version + 1) = omega arith in e) (copies_more (2 * version) 2 j k m g h)
+pub copies_version : (from version : ℕ) (j k m : Knowledge) → from ≤ version → OnlyCopies (2 * (version - from)) j k → OnlyCopies 2 k m → OnlyCopies (2 * (version + 1 - from)) j m
+copies_version from version j k m less g h =
+    subst (λ (x : ℕ). OnlyCopies x j m) (let e : 2 * (version - from) + 2 ≡ 2 * (version + 1 - from) = omega (arith, less) in e)
+    (copies_more (2 * (version - from)) 2 j k m g h)
+
+-- at most as many
+pub copies_within : (n p : ℕ) (j k : Knowledge) → n ≤ p → OnlyCopies n j k → OnlyCopies p j k
+copies_within n p j k less g = record { same = g.same; gets = omega (arith, g.gets, less) }
+
+-- and which staged files became known
+pub copies_keep : (n : ℕ) (j k m : Knowledge) → OnlyCopies n j k → KeepsBelow (length j.seen) j k → KeepsBelow (length k.seen) k m → KeepsBelow (length j.seen) j m
+copies_keep n j k m g h i =
+    let seen : length k.seen ≡ length j.seen = ap (λ (x : Knowledge). length x.seen) g.same in
+    keeps_both (length j.seen) (length j.seen) j k m (omega arith) h (subst (λ (count : ℕ). KeepsBelow count k m) seen i)

@@ -1,7 +1,9 @@
+pub mod Asking
 pub mod Causing
 pub mod Copying
 pub mod Counting
 pub mod Faults
+pub mod Keeping
 pub mod Removing
 pub mod Reporting
 pub mod Settling

@@ -1,6 +1,6 @@
 -- Staged files that are cleared, in a world that is told.
 use Rattle.std.proofs.Common.{zero, suc, ◌≡◌, ◌≢◌, ◌<◌, ◌+◌, ◌^◌, ◌⊎◌, inl, inr, ℕ, Bool, true, false, cond, IsTrue, List, [], ◌∷◌, length, take, get_or, refl, sym, ◌∙◌, ap, subst, arith, Option, Some, None}
-use Rattle.std.specs.Prelude.{Result, Ok, Err, Contains, is_some, Vec, IsErr}
+use Rattle.std.specs.Prelude.{Result, Ok, Err, Contains, is_some, Vec, IsErr, IfSome}
 use Rattle.std.specs.declared.alloc.Global.{Global}
 use Rattle.std.proofs.lemmas.List.{take_more, take_all}
 use Rattle.std.proofs.lemmas.List.Elements.{Contains-append_cases}
@@ -15,14 +15,18 @@ use Rattle.table_model.specs.declared.answers.StepFault.{StepFault}
 use Rattle.table_model.specs.declared.answers.StepFault.TheVariants as step
 use Rattle.table_model.specs.Files.{file_at, drop_at, stands_at}
 use Rattle.table_model.specs.World.{WorldData, stands, told_drop}
+use Rattle.commit_catalog.specs.Ratifying.{TellsCommits}
+use Rattle.table_model.specs.Consistency.{IsConsistent}
+use Rattle.table_model.specs.Knowledge.{Knowledge}
+use Rattle.table_model.specs.Holding.{HoldsInTold}
 use Rattle.table_model.specs.Turns.{TellsTurn, ClearTurn, CommitsTurn, ListTurn, Lists, listing}
 use Rattle.table_model.proofs.FileLaws.{fits_staged, file_at-drop_at, file_at-drop_at_other}
 use Rattle.table_model.proofs.Listing.{stands-listing}
 use Rattle.table_model.proofs.Changing.{same_or_other, change-clear}
 use Rattle.publisher.specs.declared.answers.PublishError.{PublishError}
 use Rattle.publisher.specs.declared.answers.PublishError.TheVariants as publish
-use Rattle.publisher.specs.Worlds.{KeepsLog, ClearTurns, ClearsAll, Clears, IsGone, AreCleared, SameButTally}
-use Rattle.publisher.proofs.Reporting.{keeps_kept, keeps_refl}
+use Rattle.publisher.specs.Worlds.{KeepsLog, ClearTurns, ClearsAll, Clears, IsGone, AreCleared, SameButTally, AsCommitsTell}
+use Rattle.publisher.proofs.Reporting.{keeps_kept, keeps_same, told_consistent, tells_from, commits_same, commits_before, commits_told, commits_then}
 use Rattle.publisher.proofs.Telling.{tells_both, tells_as, tells_after, kept_tally, kept_trans, catalogue_tally, catalogue_trans, change_kept}
 
 -- no staged file comes by a removal
@@ -159,10 +163,10 @@ none_left true h = h refl
 none_left false h = refl
 
 -- the listing shows every staged file that stands, and those of reported versions were cleared
-cleared_world : (c : Commits) (names : List LogName) (w x y z : WorldData) → CommitsTurn w (Ok c) x → Lists x names y → Clears c.reported y z
+cleared_world : (c : Commits) (names : List LogName) (w x y z : WorldData) → IsConsistent w → CommitsTurn w (Ok c) x → Lists x names y → Clears c.reported y z
     → (IsTrue z.tells → (version id : ℕ) → version < c.reported → Contains (take (length names) names) (name.Staged version id) → stands z (name.Staged version id) ≡ false)
     → ClearsAll w z
-cleared_world c names w x y z t u p q =
+cleared_world c names w x y z con t u p q =
     let xw : x ≡ w = t.1 in
     let yx : y ≡ x = u.same in
     let yw : y ≡ w = yx ∙ xw in
@@ -172,7 +176,7 @@ cleared_world c names w x y z t u p q =
     let Q : WorldData → Type 0 = λ v. IsTrue v.tells → names ≡ listing v.files in
     let listed : IsTrue w.tells → names ≡ listing w.files = subst Q xw u.names_are in
     record {
-      keeps = keeps_kept w z from.same (λ con. from.kept con (omega arith));
+      keeps = keeps_kept w z from.same (from.kept con (omega arith));
       reported = from.same.reported;
       cleared = λ tells version id below. none_left (stands z (name.Staged version id)) (λ there.
           let stood : stands w (name.Staged version id) ≡ true = from.fewer version id there in
@@ -183,30 +187,25 @@ cleared_world c names w x y z t u p q =
           q (from.same.tells ∙ tells) version id (omega arith) found);
     }
 
-clear_tells_case : (c : Commits) (names : List LogName) (o p q r : Option WorldData) → TellsTurn (λ w x. CommitsTurn w (Ok c) x) o p
+clear_tells_case : (c : Commits) (names : List LogName) (o p q r : Option WorldData) → IfSome o IsConsistent → TellsTurn (λ w x. CommitsTurn w (Ok c) x) o p
     → TellsTurn (λ w x. Lists w names x) p q → TellsTurn (Clears c.reported) q r → AreCleared c.reported (length names) names r → TellsTurn ClearsAll o r
-clear_tells_case c names None p q r t u v h =
+clear_tells_case c names None p q r con t u v h =
     let P : Option WorldData → Type 0 = λ s. TellsTurn (λ w x. Lists w names x) s q in
     let Q : Option WorldData → Type 0 = λ s. TellsTurn (Clears c.reported) s r in
     subst Q (subst P t u) v
-clear_tells_case c names (Some w) None q r t u v h = absurd t
-clear_tells_case c names (Some w) (Some x) None r t u v h = absurd u
-clear_tells_case c names (Some w) (Some x) (Some y) None t u v h = absurd v
-clear_tells_case c names (Some w) (Some x) (Some y) (Some z) t u v h = cleared_world c names w x y z t u v h
+clear_tells_case c names (Some w) None q r con t u v h = absurd t
+clear_tells_case c names (Some w) (Some x) None r con t u v h = absurd u
+clear_tells_case c names (Some w) (Some x) (Some y) None con t u v h = absurd v
+clear_tells_case c names (Some w) (Some x) (Some y) (Some z) con t u v h = cleared_world c names w x y z con t u v h
 
-pub clear_all_tells : (c : Commits) (names : Vec LogName Global) (ns : List LogName) (o p q r : Option WorldData) → ns ≡ names.items
+pub clear_all_tells : (c : Commits) (names : Vec LogName Global) (ns : List LogName) (o p q r : Option WorldData) (k : Knowledge) → HoldsInTold p k → ns ≡ names.items
     → TellsTurn (λ w x. CommitsTurn w (Ok c) x) o p → TellsTurn (λ w x. ListTurn w (Ok names) x) p q → TellsTurn (Clears c.reported) q r
     → AreCleared c.reported (length ns) ns r → TellsTurn ClearsAll o r
-clear_all_tells c names ns o p q r e t u v h =
+clear_all_tells c names ns o p q r k told e t u v h =
     let P : List LogName → Type 0 = λ xs. AreCleared c.reported (length xs) xs r in
-    clear_tells_case c names.items o p q r t u v (subst P e h)
+    clear_tells_case c names.items o p q r (commits_before (Ok c) o p k t told) t u v (subst P e h)
 
--- the folder could not be listed
-list_keeps : (c : Commits) (f : StepFault) (w x y : WorldData) → CommitsTurn w (Ok c) x → ListTurn x (Err f) y → KeepsLog w y
-list_keeps c step.Memory w x y t u = let P : WorldData → Type 0 = λ v. KeepsLog w v in subst P (sym (u ∙ t.1)) (keeps_refl w)
-list_keeps c (step.Fault at) w x y t u =
-    let is : y ≡ record w { tally = y.tally } = u.1.same ∙ ap (λ (v : WorldData). let z : WorldData = record v { tally = y.tally } in z) t.1 in
-    keeps_kept w y (catalogue_tally w y is) (kept_tally w y is)
+-- refusals
 
 err_turns : {A : Type 0} (r : Result A PublishError) (w x : WorldData) → IsErr r → KeepsLog w x → ClearTurns r w x
 err_turns (Ok a) w x h k = let no_error : false ≡ true = h in cc
@@ -214,7 +213,33 @@ err_turns (Err publish.NoTable) w x h k = k
 err_turns (Err (publish.Fault at)) w x h k = k
 err_turns (Err publish.Memory) w x h k = k
 
-pub list_refused : {A : Type 0} (r : Result A PublishError) (c : Commits) (f : StepFault) (o p q : Option WorldData) → IsErr r
+-- nothing was done but the catalogue turn
+pub clear_nothing : {A : Type 0} (r : Result A PublishError) (a : Result Commits StepFault) (o p : Option WorldData) → IsErr r
+    → TellsTurn (λ w x. CommitsTurn w a x) o p → TellsTurn (ClearTurns r) o p
+clear_nothing r a o p h t = tells_as (λ w x. CommitsTurn w a x) (ClearTurns r) o p (λ w x u. err_turns r w x h (keeps_same w x (commits_same a w x u))) t
+
+-- the folder could not be listed
+list_keeps : (f : StepFault) (w x : WorldData) → IsConsistent w → ListTurn w (Err f) x → KeepsLog w x
+list_keeps step.Memory w x con t = keeps_same w x t
+list_keeps (step.Fault at) w x con t = keeps_kept w x (catalogue_tally w x t.1.same) (kept_tally w x t.1.same con)
+
+pub list_refused : {A : Type 0} (r : Result A PublishError) (c : Commits) (f : StepFault) (o p q : Option WorldData) (k : Knowledge) → HoldsInTold p k → IsErr r
     → TellsTurn (λ w x. CommitsTurn w (Ok c) x) o p → TellsTurn (λ w x. ListTurn w (Err f) x) p q → TellsTurn (ClearTurns r) o q
-list_refused r c f o p q h t u =
-    tells_both (λ w x. CommitsTurn w (Ok c) x) (λ w x. ListTurn w (Err f) x) (ClearTurns r) o p q (λ w x y a b. err_turns r w y h (list_keeps c f w x y a b)) t u
+list_refused r c f o p q k told h t u =
+    commits_then (ClearTurns r) c o p q t
+    (tells_from IsConsistent (λ w x. ListTurn w (Err f) x) (ClearTurns r) p q (told_consistent p k told) (λ w x con b. err_turns r w x h (list_keeps f w x con b)) u)
+
+-- a file could not be cleared
+both_known : (c : Commits) (o : Option WorldData) (k : Knowledge) → HoldsInTold o k → AsCommitsTell c o → IfSome o (λ w. IsConsistent w × TellsCommits w.records w.reported c)
+both_known c None k h t = tt
+both_known c (Some w) k h t = (h.0, t)
+
+pub clear_refused : {A : Type 0} (r : Result A PublishError) (c : Commits) (names : Vec LogName Global) (o p q s : Option WorldData) (k : Knowledge) → HoldsInTold p k → IsErr r
+    → TellsTurn (λ w x. CommitsTurn w (Ok c) x) o p → TellsTurn (λ w x. ListTurn w (Ok names) x) p q → TellsTurn (Clears c.reported) q s → TellsTurn (ClearTurns r) o s
+clear_refused r c names o p q s k told h t u v =
+    let both : TellsTurn (Clears c.reported) p s =
+    tells_both (λ w x. ListTurn w (Ok names) x) (Clears c.reported) (Clears c.reported) p q s
+    (λ w x y a b. let P : WorldData → Type 0 = λ z. Clears c.reported z y in subst P a.same b) u v in
+    commits_then (ClearTurns r) c o p s t
+    (tells_from (λ w. IsConsistent w × TellsCommits w.records w.reported c) (Clears c.reported) (ClearTurns r) p s (both_known c p k told (commits_told c o p t))
+    (λ w x known b. err_turns r w x h (keeps_kept w x b.same (b.kept known.0 (omega (arith, known.1.reported))))) both)

@@ -37,15 +37,23 @@ pub record IsNoTable (k m : Knowledge) : Type 0 where
   pub empty : m.seen ≡ []
   pub only : OnlyAsks k m
 
--- `NoTable` where the catalogue turn found no commit, a fault where it found one
+-- `NoTable` where the catalogue turn found no commit; a fault where it found one; want of memory before that turn, or
+-- where it found one
 abbrev pub PublishCause : Bool → PublishError → Knowledge → Knowledge → Type 0
 PublishCause tells publish.NoTable k m = IsNoTable k m
 PublishCause tells (publish.Fault at) k m = FaultCause tells at k m × (0 < length m.seen)
-PublishCause tells publish.Memory k m = Unit {0}
+PublishCause tells publish.Memory k m = k.asks < m.asks → 0 < length m.seen
 
+-- the same; a file that is absent need not be cleared, so that a fault is always one of the store
+abbrev pub ClearCause : PublishError → Knowledge → Knowledge → Type 0
+ClearCause publish.NoTable k m = IsNoTable k m
+ClearCause (publish.Fault at) k m = FailedAt at k m × (0 < length m.seen)
+ClearCause publish.Memory k m = k.asks < m.asks → 0 < length m.seen
+
+-- a fault where a catalogue turn found a commit; want of memory before the first one, or where it found a commit
 abbrev pub DrainCause : Bool → DrainError → Knowledge → Knowledge → Type 0
-DrainCause tells (drain.Fault at) k m = FaultCause tells at k m
-DrainCause tells drain.Memory k m = Unit {0}
+DrainCause tells (drain.Fault at) k m = FaultCause tells at k m × (0 < length m.seen)
+DrainCause tells drain.Memory k m = k.asks < m.asks → 0 < length m.seen
 
 -- a fact of every answer but want of memory
 abbrev pub UnlessMemory : {A : Type 0} → Result A PublishError → Type 0 → Type 0
@@ -67,6 +75,13 @@ CountsError tells k publish.Memory m = m.faults ≡ k.faults
 abbrev pub CountsFaults : {A : Type 0} → Bool → Knowledge → Result A PublishError → Knowledge → Type 0
 CountsFaults tells k (Ok answer) m = m.faults ≡ k.faults
 CountsFaults tells k (Err e) m = CountsError tells k e m
+
+-- of a clearing: after a fault one more, over every store
+abbrev pub CountsClear : {A : Type 0} → Knowledge → Result A PublishError → Knowledge → Type 0
+CountsClear k (Ok answer) m = m.faults ≡ k.faults
+CountsClear k (Err publish.NoTable) m = m.faults ≡ k.faults
+CountsClear k (Err (publish.Fault at)) m = m.faults ≡ k.faults + 1
+CountsClear k (Err publish.Memory) m = m.faults ≡ k.faults
 
 abbrev pub CountsDrain : {A : Type 0} → Bool → Knowledge → Result A DrainError → Knowledge → Type 0
 CountsDrain tells k (Ok answer) m = m.faults ≡ k.faults

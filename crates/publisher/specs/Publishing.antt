@@ -1,5 +1,5 @@
 -- What publishing, clearing and draining answer, and what they leave of the knowledge.
-use Rattle.std.specs.Prelude.{◌≡◌, ◌<◌, ◌≤◌, ◌+◌, ◌*◌, ◌++◌, ◌∷◌, [], ℕ, List, Bool, false, length, map, filter, nat_lt, slice_index_or, Option, None, Some}
+use Rattle.std.specs.Prelude.{◌≡◌, ◌<◌, ◌≤◌, ◌+◌, ◌-◌, ◌*◌, ◌++◌, ◌∷◌, [], ℕ, List, Bool, All, false, length, map, filter, nat_lt, slice_index_or, Option, None, Some}
 use Rattle.log_names.specs.declared.LogName.{LogName}
 use Rattle.log_names.specs.declared.LogName.TheVariants as name
 use Rattle.commit_catalog.specs.declared.Commits.{Commits}
@@ -67,23 +67,45 @@ pub record IsDrained (k m : Knowledge) : Type 0 where
   pub told : k.told ≤ m.reported
   pub published : m.reported ≤ m.published
 
--- the catalogue was read once, and what was seen then is as long as all that was told before
-pub record HasAsked (k m : Knowledge) : Type 0 where
+-- the catalogue was read once, and this number was heard as the reported one; what was seen is as long as all that was
+-- told before
+pub record HasAsked (number : ℕ) (k m : Knowledge) : Type 0 where
   pub asks : m.asks ≡ k.asks + 1
+  pub heard : m.heard ≡ k.heard ++ number ∷ []
   pub told : k.told ≤ length m.seen
+
+-- the catalogue was read once; then at most two turns read a file for each version from the number heard up
+pub record AsksToPublish (k m : Knowledge) : Type 0 where
+  pub number : ℕ
+  pub asked : HasAsked number k m
+  pub rises : k.reported ≤ number
+  pub within : number ≤ m.reported
+  pub gets : m.gets ≤ k.gets + 2 * (length m.seen - number)
+
+-- the catalogue was read twice, and these two numbers were heard, in order; the second one is the last that is known
+pub record AsksTwice (k m : Knowledge) : Type 0 where
+  pub first : ℕ
+  pub asks : m.asks ≡ k.asks + 2
+  pub heard : m.heard ≡ k.heard ++ first ∷ m.reported ∷ []
+
+-- the staged files that became known are of versions below this number
+pub record KeepsBelow (count : ℕ) (k m : Knowledge) : Type 0 where
+  pub kept : StartsWith m.kept k.kept
+  pub below : All (λ t. t.version < count) kept.rest
 
 -- the catalogue was read once, and nothing else was done
 pub record OnlyAsks (k m : Knowledge) : Type 0 where
   pub same : m ≡ record k { seen = m.seen; published = m.published; reported = m.reported; heard = m.heard; asks = m.asks }
   pub asks : m.asks ≡ k.asks + 1
+  pub heard : m.heard ≡ k.heard ++ m.reported ∷ []
 
 -- turns that read and publish: at most so many read a file; all else stays
 pub record OnlyCopies (reads : ℕ) (k m : Knowledge) : Type 0 where
   pub same : m ≡ record k { published = m.published; kept = m.kept; absents = m.absents; gets = m.gets; failed = m.failed; faults = m.faults }
   pub gets : m.gets ≤ k.gets + reads
 
--- at most one turn reads the catalogue, and at most two read a file for each version that was seen; all that the caller
--- did itself stays: its own versions, what it staged, tried, cleared
+-- at most one turn reads the catalogue, and at most two read a file for each version that was not known to be reported;
+-- all that the caller did itself stays: its own versions, what it staged, tried, cleared
 pub record OnlyPublishes (k m : Knowledge) : Type 0 where
   pub same : m ≡ record k {
     seen = m.seen;
@@ -98,7 +120,7 @@ pub record OnlyPublishes (k m : Knowledge) : Type 0 where
     faults = m.faults;
   }
   pub asks : m.asks ≤ k.asks + 1
-  pub gets : m.gets ≤ k.gets + 2 * length m.seen
+  pub gets : m.gets ≤ k.gets + 2 * (length m.seen - k.reported)
 
 -- turns that clear; all else stays
 pub record OnlyClears (k m : Knowledge) : Type 0 where
@@ -122,7 +144,8 @@ pub record OnlyListsAndClears (k m : Knowledge) : Type 0 where
   pub asks : m.asks ≤ k.asks + 1
   pub lists_most : m.lists ≤ k.lists + 1
 
--- what a drain leaves: its own versions, what it staged and tried
+-- what a drain leaves: its own versions, what it staged and tried; at most two turns read the catalogue, one lists the
+-- folder, and two read a file for each version that was not known to be reported
 pub record OnlyDrains (k m : Knowledge) : Type 0 where
   pub same : m ≡ record k {
     seen = m.seen;
@@ -141,6 +164,8 @@ pub record OnlyDrains (k m : Knowledge) : Type 0 where
     faults = m.faults;
   }
   pub asks : m.asks ≤ k.asks + 2
+  pub lists_most : m.lists ≤ k.lists + 1
+  pub gets : m.gets ≤ k.gets + 2 * (length m.seen - k.reported)
 
 -- what a catalogue turn answered still holds of what is known
 pub record IsCatalogue (c : Commits) (k : Knowledge) : Type 0 where

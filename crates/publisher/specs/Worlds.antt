@@ -19,12 +19,17 @@ pub record IsSettled (w : WorldData) : Type 0 where
 pub record KeepsLog (w x : WorldData) : Type 0 where
   pub records : x.records ≡ w.records
   pub tells : x.tells ≡ w.tells
-  pub consistent : IsConsistent w → IsConsistent x
-  pub log : IsConsistent w → log_of x ≡ log_of w
+  pub log : log_of x ≡ log_of w
 
+-- so many published files stand, from version 0 on
+abbrev pub ArePublished : ℕ → WorldData → Type 0
+ArePublished count w = IsTrue w.tells → (version : ℕ) → version < count → IsTrue (stands w (name.Published version))
+
+-- all versions are reported, and the published files of all of them stand
 pub record PublishesAll (w x : WorldData) : Type 0 where
   pub keeps : KeepsLog w x
   pub reported : x.reported ≡ length x.records
+  pub published : ArePublished (length x.records) x
 
 abbrev pub PublishTurns : {A : Type 0} → Result A PublishError → WorldData → WorldData → Type 0
 PublishTurns (Ok answer) w x = PublishesAll w x
@@ -73,10 +78,6 @@ pub record SameCatalogue (w x : WorldData) : Type 0 where
   pub records : x.records ≡ w.records
   pub reported : x.reported ≡ w.reported
   pub tells : x.tells ≡ w.tells
-
--- so many published files stand, from version 0 on
-abbrev pub ArePublished : ℕ → WorldData → Type 0
-ArePublished count w = IsTrue w.tells → (version : ℕ) → version < count → IsTrue (stands w (name.Published version))
 
 -- a ratified version under its id, of which all below are published
 pub record IsNextToPublish (version id : ℕ) (w : WorldData) : Type 0 where

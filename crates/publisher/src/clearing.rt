@@ -1,8 +1,8 @@
-ghost use Rattle.std.specs.Prelude.{◌≡◌, ◌<◌, ◌≤◌, ◌+◌, ℕ, List, Bool, IsTrue, IfOk, IfErr, OnOk, length};
+ghost use Rattle.std.specs.Prelude.{◌≡◌, ◌<◌, ◌≤◌, ◌+◌, ℕ, List, Bool, true, IsTrue, IfOk, IfErr, OnOk, length};
 ghost use Rattle.log_names.specs.declared.LogName.TheVariants as name;
 ghost use Rattle.table_model.specs.Knowledge.{IsGrown, IsValid};
 ghost use Rattle.table_model.specs.Turns.{TellsTurn};
-ghost use Rattle.publisher.specs.Causes.{TurnCause, PublishCause, CountsFaults, UnlessMemory};
+ghost use Rattle.publisher.specs.Causes.{TurnCause, ClearCause, CountsFaults, CountsClear, UnlessMemory};
 ghost use Rattle.publisher.specs.Publishing.{HasCleared, HasAsked, ClearsFile, ClearsNames, IsClearableAs, OnlyClears, OnlyListsAndClears};
 ghost use Rattle.publisher.specs.Worlds.{ClearTurns, Clears, IsGone, AreCleared};
 
@@ -36,8 +36,8 @@ fn clear_file<T: Steps>(
     requires { version < (T.known caller.old).reported }
     ensures cleared { IfOk result (λ n. ClearsFile version id n (T.known caller.old) (T.known caller.new)) }
     ensures small { IfOk result (λ n. n ≤ 1) }
-    ensures cause { IfErr result (λ e. TurnCause T.tells e (T.known caller.old) (T.known caller.new)) }
-    ensures counts { CountsFaults T.tells (T.known caller.old) result (T.known caller.new) }
+    ensures cause { IfErr result (λ e. TurnCause true e (T.known caller.old) (T.known caller.new)) }
+    ensures counts { CountsFaults true (T.known caller.old) result (T.known caller.new) }
     ensures turns { OnlyClears (T.known caller.old) (T.known caller.new) }
     ensures grows { IsGrown (T.known caller.old) (T.known caller.new) }
     ensures valid { IsValid (T.known caller.new) }
@@ -63,8 +63,8 @@ fn clear_listed<T: Steps>(
     requires reported { reported ≤ (T.known caller.old).reported }
     requires valid { IsValid (T.known caller.old) }
     ensures cleared { IfOk result (λ n. ClearsNames reported names.now n (T.known caller.old) (T.known caller.new)) }
-    ensures cause { IfErr result (λ e. TurnCause T.tells e (T.known caller.old) (T.known caller.new)) }
-    ensures counts { CountsFaults T.tells (T.known caller.old) result (T.known caller.new) }
+    ensures cause { IfErr result (λ e. TurnCause true e (T.known caller.old) (T.known caller.new)) }
+    ensures counts { CountsFaults true (T.known caller.old) result (T.known caller.new) }
     ensures turns { OnlyClears (T.known caller.old) (T.known caller.new) }
     ensures grows { IsGrown (T.known caller.old) (T.known caller.new) }
     ensures valid { IsValid (T.known caller.new) }
@@ -89,9 +89,9 @@ fn clear_listed<T: Steps>(
 /// of the store, which is named by its spot, or for want of memory. The files that were cleared before stay so.
 pub fn clear_all<T: Steps>(caller: &mut T, alloc: Global) -> Result<ClearedAll, PublishError>
     ensures cleared { IfOk result (λ a. HasCleared a (T.known caller.old) (T.known caller.new)) }
-    ensures cause { IfErr result (λ e. PublishCause T.tells e (T.known caller.old) (T.known caller.new)) }
-    ensures counts { CountsFaults T.tells (T.known caller.old) result (T.known caller.new) }
-    ensures asked { UnlessMemory result (HasAsked (T.known caller.old) (T.known caller.new)) }
+    ensures cause { IfErr result (λ e. ClearCause e (T.known caller.old) (T.known caller.new)) }
+    ensures counts { CountsClear (T.known caller.old) result (T.known caller.new) }
+    ensures asked { UnlessMemory result (HasAsked (T.known caller.new).reported (T.known caller.old) (T.known caller.new)) }
     ensures turns { OnlyListsAndClears (T.known caller.old) (T.known caller.new) }
     ensures grows { IsGrown (T.known caller.old) (T.known caller.new) }
     ensures valid { IsValid (T.known caller.new) }

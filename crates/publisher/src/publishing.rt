@@ -5,7 +5,7 @@ ghost use Rattle.table_model.specs.Knowledge.{IsGrown, IsValid};
 ghost use Rattle.table_model.specs.Learning.{no_ratified};
 ghost use Rattle.table_model.specs.Turns.{TellsTurn};
 ghost use Rattle.publisher.specs.Causes.{TurnCause, PublishCause, CountsFaults, UnlessMemory};
-ghost use Rattle.publisher.specs.Publishing.{HasPublished, HasAsked, OnlyCopies, OnlyPublishes, IsCatalogue};
+ghost use Rattle.publisher.specs.Publishing.{HasPublished, AsksToPublish, KeepsBelow, OnlyCopies, OnlyPublishes, IsCatalogue};
 ghost use Rattle.publisher.specs.Worlds.{PublishTurns, SameButTally, PublishesUpTo, AsCommitsTell, PublishesVersion, IsThere};
 
 use crate::answers::{PublishError, Published};
@@ -20,6 +20,7 @@ fn find_published<T: Steps>(caller: &mut T, alloc: Global, version: u64) -> Resu
     ensures cause { IfErr result (λ e. TurnCause T.tells e (T.known caller.old) (T.known caller.new)) }
     ensures counts { CountsFaults T.tells (T.known caller.old) result (T.known caller.new) }
     ensures turns { OnlyCopies 1 (T.known caller.old) (T.known caller.new) }
+    ensures kept { KeepsBelow (length (T.known caller.old).seen) (T.known caller.old) (T.known caller.new) }
     ensures grows { IsGrown (T.known caller.old) (T.known caller.new) }
     ensures valid { IsValid (T.known caller.new) }
     ensures after { T.after caller.old caller.new }
@@ -51,6 +52,7 @@ fn publish_version<T: Steps>(
     ensures cause { IfErr result (λ e. TurnCause T.tells e (T.known caller.old) (T.known caller.new)) }
     ensures counts { CountsFaults T.tells (T.known caller.old) result (T.known caller.new) }
     ensures turns { OnlyCopies 2 (T.known caller.old) (T.known caller.new) }
+    ensures kept { KeepsBelow (length (T.known caller.old).seen) (T.known caller.old) (T.known caller.new) }
     ensures grows { IsGrown (T.known caller.old) (T.known caller.new) }
     ensures valid { IsValid (T.known caller.new) }
     ensures after { T.after caller.old caller.new }
@@ -90,7 +92,8 @@ fn publish_from<T: Steps>(
     ensures published { OnOk result (commits.now.count ≤ (T.known caller.new).published) }
     ensures cause { IfErr result (λ e. TurnCause T.tells e (T.known caller.old) (T.known caller.new)) }
     ensures counts { CountsFaults T.tells (T.known caller.old) result (T.known caller.new) }
-    ensures turns { OnlyCopies (2 * length (T.known caller.new).seen) (T.known caller.old) (T.known caller.new) }
+    ensures turns { OnlyCopies (2 * (commits.now.count - commits.now.reported)) (T.known caller.old) (T.known caller.new) }
+    ensures kept { KeepsBelow (length (T.known caller.old).seen) (T.known caller.old) (T.known caller.new) }
     ensures grows { IsGrown (T.known caller.old) (T.known caller.new) }
     ensures valid { IsValid (T.known caller.new) }
     ensures after { T.after caller.old caller.new }
@@ -113,8 +116,9 @@ pub fn publish_all<T: Steps>(caller: &mut T, alloc: Global) -> Result<Published,
     ensures published { IfOk result (λ p. HasPublished p (T.known caller.new)) }
     ensures cause { IfErr result (λ e. PublishCause T.tells e (T.known caller.old) (T.known caller.new)) }
     ensures counts { CountsFaults T.tells (T.known caller.old) result (T.known caller.new) }
-    ensures asked { UnlessMemory result (HasAsked (T.known caller.old) (T.known caller.new)) }
+    ensures asked { UnlessMemory result (AsksToPublish (T.known caller.old) (T.known caller.new)) }
     ensures turns { OnlyPublishes (T.known caller.old) (T.known caller.new) }
+    ensures kept { KeepsBelow (length (T.known caller.new).seen) (T.known caller.old) (T.known caller.new) }
     ensures grows { IsGrown (T.known caller.old) (T.known caller.new) }
     ensures valid { IsValid (T.known caller.new) }
     ensures after { T.after caller.old caller.new }

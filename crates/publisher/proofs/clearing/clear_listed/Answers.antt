@@ -1,4 +1,4 @@
-use Rattle.std.proofs.Common.{rules, refl, arith, ◌∙◌}
+use Rattle.std.proofs.Common.{rules, refl, arith, true, ◌∙◌}
 use Rattle.table_model.proofs.Growing.{grows_refl, grows_trans}
 use Rattle.publisher.specs.Causes.{TurnCause, CountsError}
 use Rattle.publisher.proofs.Causing.{cause_later}
@@ -35,7 +35,7 @@ loop-listed-preserved-in_default g c = record {
 
 pub returns-in_err-cleared-clause-cause : goal.returns-in_err-cleared-clause-cause
 returns-in_err-cleared-clause-cause g c =
-    let i : TurnCause g.T.Steps.tells c.in_err-cleared.field-0.0 (g.T.Steps.known c.args.caller.now) (g.T.Steps.known c.clear_file.new.caller) =
+    let i : TurnCause true c.in_err-cleared.field-0.0 (g.T.Steps.known c.args.caller.now) (g.T.Steps.known c.clear_file.new.caller) =
     cause_later _ _ _ _ _ c.loop-listed.invariant.grows c.in_err-cleared.ensures.cause in
     search rules
 
@@ -63,6 +63,6 @@ returns-clause-cleared g c = names_all _ _ _ _ _ _ c.loop-listed-test.false c.lo
 
 pub returns-in_err-cleared-clause-counts : goal.returns-in_err-cleared-clause-counts
 returns-in_err-cleared-clause-counts g c =
-    let i : CountsError g.T.Steps.tells (g.T.Steps.known c.args.caller.now) c.in_err-cleared.field-0.0 (g.T.Steps.known c.clear_file.new.caller) =
+    let i : CountsError true (g.T.Steps.known c.args.caller.now) c.in_err-cleared.field-0.0 (g.T.Steps.known c.clear_file.new.caller) =
     error_counts _ _ (g.T.Steps.known c.args.caller.now) (g.T.Steps.known c.loop-listed.caller) _ c.loop-listed.invariant.faults c.in_err-cleared.ensures.counts in
     search rules

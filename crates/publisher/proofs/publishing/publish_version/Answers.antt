@@ -1,9 +1,11 @@
-use Rattle.std.proofs.Common.{◌≡◌}
+use Rattle.std.proofs.Common.{◌≡◌, ap, arith}
 use Rattle.std.specs.Prelude.{Ok, Err}
 use Rattle.log_names.specs.declared.LogName.TheVariants as name
 use Rattle.publisher.proofs.Causing.{turn_refused, cause_later, answer_later}
 use Rattle.publisher.proofs.Faults.{turn_counts, error_counts, answer_counts, get_counts}
 use Rattle.publisher.proofs.Telling.{copied_tells, found_tells, got_tells, put_there_tells}
+use Rattle.table_model.specs.Knowledge.{Knowledge}
+use Rattle.publisher.proofs.Keeping.{keeps_none, keeps_then, staged_keeps, staged_then, fault_kept}
 use Rattle.publisher.proofs.publishing.publish_version.Goals as goal
 
 pub returns-in-Ok-clause-world : goal.returns-in-Ok-clause-world
@@ -47,3 +49,17 @@ returns-in-Ok-Absent-clause-counts g c =
 
 pub returns-clause-counts : goal.returns-clause-counts
 returns-clause-counts g c = rw c.from-in-Err.ensures (turn_counts _ _ _ _ _ c.in-Err.ensures.learns)
+
+pub returns-in-Ok-clause-kept : goal.returns-in-Ok-clause-kept
+returns-in-Ok-clause-kept g c =
+    keeps_then _ _ _ _ _ (omega arith) (staged_keeps _ _ _ _ _ _ _ c.requires.ratified c.in-Ok-Whole.ensures.learns) (ap (λ (x : Knowledge). x.kept) c.in-Ok.ensures.learns.same)
+
+pub returns-in-Ok-Whole-clause-kept : goal.returns-in-Ok-Whole-clause-kept
+returns-in-Ok-Whole-clause-kept g c =
+    keeps_then _ _ _ _ _ (omega arith) (staged_keeps _ _ _ _ _ _ _ c.requires.ratified c.in-Ok-Whole.ensures.learns) (fault_kept _ _ _ _ c.in-Err-publish.ensures.learns)
+
+pub returns-in-Ok-Absent-clause-kept : goal.returns-in-Ok-Absent-clause-kept
+returns-in-Ok-Absent-clause-kept g c = staged_then _ _ _ _ _ _ _ c.requires.ratified c.in-Ok-Absent.ensures.learns c.find_published.ensures.kept
+
+pub returns-clause-kept : goal.returns-clause-kept
+returns-clause-kept g c = keeps_none _ _ _ (fault_kept _ _ _ _ c.in-Err.ensures.learns)
