@@ -1,5 +1,5 @@
 -- Causes of refusals, from one turn and over several.
-use Rattle.std.proofs.Common.{◌≡◌, ◌<◌, ◌≤◌, inl, inr, ℕ, Bool, IsTrue, [], ◌∷◌, ◌++◌, length, refl, sym, ◌∙◌, ap, subst, arith, append_assoc, length-append}
+use Rattle.std.proofs.Common.{◌≡◌, ◌<◌, ◌≤◌, ◌+◌, inl, inr, ℕ, Bool, IsTrue, [], ◌∷◌, ◌++◌, length, refl, sym, ◌∙◌, ap, subst, arith, append_assoc, length-append}
 use Rattle.std.specs.Prelude.{Contains, IfErr, Result, Ok, Err}
 use Rattle.std.proofs.lemmas.List.Elements.{Contains-append_right}
 use Rattle.log_names.specs.declared.LogName.TheVariants as name
@@ -11,7 +11,7 @@ use Rattle.table_model.specs.Knowledge.{Knowledge, IsGrown}
 use Rattle.table_model.specs.Learning.{IsFaultAt, IsOnlyMemory, fault_noted, AbsentLearnt}
 use Rattle.snapshot_load.specs.declared.errors.LoadError.{LoadError}
 use Rattle.snapshot_load.specs.declared.errors.LoadError.TheVariants.{NoTable, AfterLatest, BeforeFirst, Fault, Memory}
-use Rattle.snapshot_load.specs.Causes.{FailedAt, IsUntold, ReadCause, LoadCause}
+use Rattle.snapshot_load.specs.Causes.{FailedAt, IsUntold, ReadCause, LoadCause, VersionCause}
 use Rattle.snapshot_load.specs.Converting.{of_fault}
 
 contains_one : (at : Spot) → Contains (at ∷ []) at
@@ -67,6 +67,28 @@ load_cause tells (AfterLatest version latest) j k m g some h = h
 load_cause tells (BeforeFirst first latest) j k m g some h = h
 load_cause tells (Fault at) j k m g some h = (cause_later tells (Fault at) j k m g h, some)
 load_cause tells Memory j k m g some h = λ asked. some
+
+pub answer_cause : {A : Type 0} (tells : Bool) (r : Result A LoadError) (j k m : Knowledge) → IsGrown j k → 0 < length m.seen
+    → IfErr r (λ e. ReadCause tells e k m) → IfErr r (λ e. LoadCause tells e j m)
+answer_cause tells (Ok x) j k m g some h = h
+answer_cause tells (Err e) j k m g some h = load_cause tells e j k m g some h
+
+-- a refused reading within a load of an asked version that was ratified
+pub version_cause : (tells : Bool) (asked : ℕ) (e : LoadError) (j k m : Knowledge) → IsGrown j k → asked < length m.seen → ReadCause tells e k m → VersionCause tells asked e j m
+version_cause tells asked NoTable j k m g some h = absurd h
+version_cause tells asked (AfterLatest version latest) j k m g some h = absurd h
+version_cause tells asked (BeforeFirst first latest) j k m g some h = h
+version_cause tells asked (Fault at) j k m g some h = (cause_later tells (Fault at) j k m g h, some)
+version_cause tells asked Memory j k m g some h = λ was. some
+
+pub answer_version : {A : Type 0} (tells : Bool) (asked : ℕ) (r : Result A LoadError) (j k m : Knowledge) → IsGrown j k → asked < length m.seen
+    → IfErr r (λ e. ReadCause tells e k m) → IfErr r (λ e. VersionCause tells asked e j m)
+answer_version tells asked (Ok x) j k m g some h = h
+answer_version tells asked (Err e) j k m g some h = version_cause tells asked e j k m g some h
+
+pub version_unasked : (tells : Bool) (asked : ℕ) (k : Knowledge) (f : StepFault) (m : Knowledge) → IsOnlyMemory k f m → VersionCause tells asked (of_fault f) k m
+version_unasked tells asked k (step.Fault at) m h = absurd h
+version_unasked tells asked k step.Memory m h = λ was. (let same = ap (λ (x : Knowledge). x.asks) h in absurd (omega (arith, same, was)))
 
 -- the catalogue was not asked
 pub asking_refused : (tells : Bool) (k : Knowledge) (f : StepFault) (m : Knowledge) → IsOnlyMemory k f m → LoadCause tells (of_fault f) k m

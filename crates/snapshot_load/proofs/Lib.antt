@@ -4,3 +4,6 @@ pub mod Keeping
 pub mod Listing
 pub mod Loaded
 pub mod Replaying
+pub mod Rising
+pub mod TextsRead
+pub mod Timing

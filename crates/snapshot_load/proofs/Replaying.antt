@@ -48,7 +48,7 @@ catalogue_kept c n k m h rises g = record {
   ids = λ i less. g.ids i less ∙ sym (ap (λ (seen : List Commit). (commit_at seen (c.reported + i)).id) (seen_same n k m h));
 }
 
-history_more : (seen : List Commit) (version : ℕ) → version < length seen
+pub history_more : (seen : List Commit) (version : ℕ) → version < length seen
     → history (take (version + 1) seen) ≡ history (take version seen) ++ actions_of (commit_at seen version).bytes ∷ []
 history_more seen version less = ap history (take_more seen version no_commit less) ∙ map-append _ (take version seen) (commit_at seen version ∷ [])
 

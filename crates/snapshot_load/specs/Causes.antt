@@ -1,10 +1,11 @@
 -- Why a load or the reading of a version was refused.
-use Rattle.std.specs.Prelude.{◌≡◌, ◌<◌, ◌+◌, ◌⊎◌, ℕ, List, [], Bool, IsTrue, Contains, length, Result, Ok, Err}
+use Rattle.std.specs.Prelude.{◌≡◌, ◌<◌, ◌+◌, ◌⊎◌, ◌<ℤ◌, ℕ, ℤ, List, [], Bool, IsTrue, Contains, length, Result, Ok, Err, Option, None}
 use Rattle.log_names.specs.declared.LogName.TheVariants as name
 use Rattle.table_model.specs.declared.answers.Spot.{Spot}
 use Rattle.table_model.specs.declared.answers.Spot.TheVariants as spot
-use Rattle.table_model.specs.Log.{Commit, commit_at}
+use Rattle.table_model.specs.Log.{Commit, commit_at, commit_time}
 use Rattle.table_model.specs.Knowledge.{Knowledge, StartsWith}
+use Rattle.table_model.specs.declared.snapshot.Snapshot.{Snapshot}
 use Rattle.snapshot_load.specs.declared.errors.LoadError.{LoadError}
 use Rattle.snapshot_load.specs.declared.errors.LoadError.TheVariants.{NoTable, AfterLatest, BeforeFirst, Fault, Memory}
 
@@ -70,3 +71,49 @@ CountsError tells k Memory m = m.faults ≡ k.faults
 abbrev pub CountsFaults : {A : Type 0} → Bool → Knowledge → Result A LoadError → Knowledge → Type 0
 CountsFaults tells k (Ok answer) m = m.faults ≡ k.faults
 CountsFaults tells k (Err e) m = CountsError tells k e m
+
+-- a load of an asked version, or of what follows from one: `AfterLatest` where the last version is below it, a fault where the version was ratified, and
+-- want of memory before the catalogue turn, or where it was ratified
+abbrev pub VersionCause : Bool → ℕ → LoadError → Knowledge → Knowledge → Type 0
+VersionCause tells asked NoTable k m = m.seen ≡ []
+VersionCause tells asked (AfterLatest version latest) k m = (version ≡ asked) × (latest < asked) × (latest + 1 ≡ length m.seen)
+VersionCause tells asked (BeforeFirst first latest) k m = ⊥
+VersionCause tells asked (Fault at) k m = FaultCause tells at k m × (asked < length m.seen)
+VersionCause tells asked Memory k m = k.asks < m.asks → asked < length m.seen
+
+-- the time asked is before that of version 0
+pub record IsBeforeFirst (tells : Bool) (asked first : ℤ) (latest : ℕ) (seen : List Commit) : Type 0 where
+  pub last : latest + 1 ≡ length seen
+  pub first_is : IsTrue tells → first ≡ commit_time (commit_at seen 0).bytes
+  pub before : IsTrue tells → asked <ℤ first
+
+-- a load by time: `BeforeFirst` where that of version 0 is after it
+abbrev pub TimeCause : Bool → ℤ → LoadError → Knowledge → Knowledge → Type 0
+TimeCause tells asked NoTable k m = m.seen ≡ []
+TimeCause tells asked (AfterLatest version latest) k m = ⊥
+TimeCause tells asked (BeforeFirst first latest) k m = IsBeforeFirst tells asked first latest m.seen
+TimeCause tells asked (Fault at) k m = FaultCause tells at k m × (0 < length m.seen)
+TimeCause tells asked Memory k m = k.asks < m.asks → 0 < length m.seen
+
+-- the versions of which a file may be read after the time is found, of a log of so many
+abbrev pub versions_read : Result Snapshot LoadError → ℕ → ℕ
+versions_read (Ok s) count = s.version + 1
+versions_read (Err NoTable) count = 0
+versions_read (Err (AfterLatest version latest)) count = 0
+versions_read (Err (BeforeFirst first latest)) count = 1
+versions_read (Err (Fault at)) count = count
+versions_read (Err Memory) count = count
+
+-- no version was found at a time, and the time of version 0 was read
+pub record IsNoneFound (tells : Bool) (found : Option ℕ) (first : ℤ) (latest : ℕ) (seen : List Commit) : Type 0 where
+  pub none : found ≡ None
+  pub last : latest + 1 ≡ length seen
+  pub first_is : IsTrue tells → first ≡ commit_time (commit_at seen 0).bytes
+
+-- the reading of the version that was found at a time, or of version 0 where none was found
+abbrev pub FoundCause : Bool → Option ℕ → LoadError → Knowledge → Knowledge → Type 0
+FoundCause tells found NoTable k m = ⊥
+FoundCause tells found (AfterLatest version latest) k m = ⊥
+FoundCause tells found (BeforeFirst first latest) k m = IsNoneFound tells found first latest m.seen
+FoundCause tells found (Fault at) k m = FaultCause tells at k m
+FoundCause tells found Memory k m = Unit {0}

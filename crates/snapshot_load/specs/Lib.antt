@@ -1,4 +1,5 @@
 pub mod Converting
 pub mod Causes
 pub mod Reading
+pub mod Texts
 pub mod Snapshots

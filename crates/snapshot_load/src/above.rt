@@ -4,6 +4,7 @@ ghost use Rattle.table_model.specs.Knowledge.{IsGrown, IsValid};
 ghost use Rattle.snapshot_load.specs.Causes.{ReadCause, CountsFaults, UnlessMemory};
 ghost use Rattle.snapshot_load.specs.Reading.{OnlyReads, OnlyLoads, HasAsked, IsCatalogue};
 ghost use Rattle.snapshot_load.specs.Snapshots.{AreWinners};
+ghost use Rattle.snapshot_load.specs.Texts.{AreActionsRead};
 
 use crate::answers::Winners;
 use crate::errors::LoadError;
@@ -24,7 +25,10 @@ fn actions_above<T: Steps>(
     requires sound { IsTrue T.tells → IsSound (T.known caller.old).seen }
     requires valid { IsValid (T.known caller.old) }
     ensures count { IfOk result (λ v. vec_len v + (after + 1) ≡ commits.now.count) }
-    ensures actions { IfOk result (λ v. IsTrue T.tells → map (λ a. a.items) v.items ≡ history (drop (after + 1) (T.known caller.new).seen)) }
+    ensures actions { IfOk result (λ v. IsTrue T.tells
+        → map (λ a. a.items) v.items ≡ history (drop (after + 1) (T.known caller.new).seen)) }
+    ensures read { IfOk result (λ v. AreActionsRead T.tells (T.known caller.new).seen (after + 1)
+        (vec_len v) (map (λ a. a.items) v.items)) }
     ensures cause { IfErr result (λ e. ReadCause T.tells e (T.known caller.old) (T.known caller.new)) }
     ensures counts { CountsFaults T.tells (T.known caller.old) result (T.known caller.new) }
     ensures reads { OnlyReads (2 * (commits.now.count - (after + 1))) (T.known caller.old) (T.known caller.new) }
@@ -47,10 +51,13 @@ fn actions_above<T: Steps>(
 pub fn winners<T: Steps>(caller: &mut T, alloc: Global, after: u64) -> Result<Winners, LoadError>
     requires { after < length (T.known caller.old).seen }
     ensures winners { IfOk result (AreWinners T.tells (T.known caller.new).seen after) }
+    ensures read { IfOk result (λ w. AreActionsRead T.tells (T.known caller.new).seen (after + 1)
+        (vec_len w.commits) (map (λ a. a.items) w.commits.items)) }
     ensures cause { IfErr result (λ e. ReadCause T.tells e (T.known caller.old) (T.known caller.new)) }
     ensures counts { CountsFaults T.tells (T.known caller.old) result (T.known caller.new) }
     ensures asked { UnlessMemory result (HasAsked (T.known caller.old) (T.known caller.new)) }
-    ensures turns { OnlyLoads 0 (length (T.known caller.new).seen - (after + 1)) (T.known caller.old) (T.known caller.new) }
+    ensures turns { OnlyLoads 0 (length (T.known caller.new).seen - (after + 1))
+        (T.known caller.old) (T.known caller.new) }
     ensures grows { IsGrown (T.known caller.old) (T.known caller.new) }
     ensures valid { IsValid (T.known caller.new) }
     ensures after { T.after caller.old caller.new }

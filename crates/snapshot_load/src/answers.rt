@@ -1,18 +1,4 @@
 use action_types::Action;
-use reconcile::State;
-
-/// The state of a table at a version.
-#[derive(Drop)]
-pub struct Snapshot {
-    /// The version of the state.
-    pub version: u64,
-    /// The last version of the table when it was loaded.
-    pub latest: u64,
-    /// The in-commit timestamp of the version, in milliseconds since 1970 UTC.
-    pub time: i64,
-    /// What stands after the versions up to this one.
-    pub state: State,
-}
 
 /// The commits above a version.
 #[derive(Drop)]
@@ -21,4 +7,15 @@ pub struct Winners {
     pub latest: u64,
     /// The actions of each commit, in the order of the versions.
     pub commits: Vec<Vec<Action>>,
+}
+
+/// The times of commits.
+#[derive(Drop)]
+pub struct Times {
+    /// The last version of the table.
+    pub latest: u64,
+    /// The first version whose time is given.
+    pub from: u64,
+    /// The in-commit timestamps of the versions from there up, at most 100, in milliseconds since 1970 UTC.
+    pub times: Vec<i64>,
 }

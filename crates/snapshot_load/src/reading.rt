@@ -5,9 +5,10 @@ ghost use Rattle.table_model.specs.Knowledge.{Knowledge, IsGrown, IsValid};
 ghost use Rattle.action_json.specs.Text.{actions_of};
 ghost use Rattle.snapshot_load.specs.Causes.{ReadCause, CountsFaults};
 ghost use Rattle.snapshot_load.specs.Reading.{OnlyReads, IsCatalogue, IsPlaceOf, IsFileOf};
+ghost use Rattle.snapshot_load.specs.Texts.{IsReadAs, IsTimeRead};
 
 use crate::errors::LoadError;
-use crate::texts::commit_actions;
+use crate::texts::{commit_actions, own_time};
 use action_types::Action;
 use std::alloc::Global;
 use table_model::{Bytes, Commits, LogName, Spot, Steps};
@@ -151,6 +152,7 @@ pub(crate) fn version_actions<T: Steps>(
     requires sound { IsTrue T.tells → IsSound (T.known caller.old).seen }
     requires place { IsPlaceOf T.tells (T.known caller.old) version place }
     ensures actions { IfOk result (λ v. IsTrue T.tells → v.items ≡ actions_of (commit_at (T.known caller.new).seen version).bytes) }
+    ensures read { IfOk result (λ v. IsReadAs T.tells (T.known caller.new).seen version v.items) }
     ensures cause { IfErr result (λ e. ReadCause T.tells e (T.known caller.old) (T.known caller.new)) }
     ensures counts { CountsFaults T.tells (T.known caller.old) result (T.known caller.new) }
     ensures reads { OnlyReads 2 (T.known caller.old) (T.known caller.new) }
@@ -166,4 +168,26 @@ pub(crate) fn version_actions<T: Steps>(
         }),
         Err(error) => Err(LoadError::from(error)),
     }
+}
+
+/// The time of the commit of a ratified version, in milliseconds since 1970 UTC, by at most two turns that read a file.
+pub(crate) fn version_time<T: Steps>(
+    caller: &mut T,
+    alloc: Global,
+    version: u64,
+    place: Place,
+) -> Result<i64, LoadError>
+    requires ratified { version < length (T.known caller.old).seen }
+    requires sound { IsTrue T.tells → IsSound (T.known caller.old).seen }
+    requires place { IsPlaceOf T.tells (T.known caller.old) version place }
+    ensures time { IfOk result (λ t. IsTimeRead T.tells (T.known caller.new).seen version t) }
+    ensures cause { IfErr result (λ e. ReadCause T.tells e (T.known caller.old) (T.known caller.new)) }
+    ensures counts { CountsFaults T.tells (T.known caller.old) result (T.known caller.new) }
+    ensures reads { OnlyReads 2 (T.known caller.old) (T.known caller.new) }
+    ensures grows { IsGrown (T.known caller.old) (T.known caller.new) }
+    ensures valid { IsValid (T.known caller.new) }
+    ensures after { T.after caller.old caller.new }
+{
+    let actions = version_actions(caller, alloc, version, place)?;
+    Ok(own_time(actions.as_slice()).unwrap_or(0))
 }

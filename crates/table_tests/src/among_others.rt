@@ -10,16 +10,16 @@ use table_meddler::{Foreign, Meddler, Turn};
 use table_world::{Bytes, Limits, LogName, Staged, StepFault, Steps, World};
 
 const LIMITS: Limits = Limits {
-    versions: 10,
-    unpublished: 10,
+    versions: 200,
+    unpublished: 200,
     attempts: 1,
     bytes: 1024,
 };
 
-const CREATE: &[u8] =
+pub const CREATE: &[u8] =
     b"{\"commitInfo\":{\"inCommitTimestamp\":1000,\"txnId\":\"00000000-0000-0000-0000-000000000001\"}}\n{\"protocol\":{\"minReaderVersion\":3,\"minWriterVersion\":7,\"readerFeatures\":[\"catalogManaged\",\"v2Checkpoint\",\"vacuumProtocolCheck\"],\"writerFeatures\":[\"catalogManaged\",\"inCommitTimestamp\",\"v2Checkpoint\",\"vacuumProtocolCheck\"]}}\n{\"metaData\":{\"configuration\":{\"delta.enableInCommitTimestamps\":\"true\"},\"createdTime\":1000,\"format\":{\"options\":{},\"provider\":\"parquet\"},\"id\":\"t1\",\"partitionColumns\":[],\"schemaString\":\"{\\\"type\\\":\\\"struct\\\",\\\"fields\\\":[]}\"}}\n";
 
-const ADD: &[u8] =
+pub const ADD: &[u8] =
     b"{\"commitInfo\":{\"inCommitTimestamp\":1001,\"txnId\":\"00000000-0000-0000-0000-000000000002\"}}\n{\"add\":{\"dataChange\":true,\"modificationTime\":5,\"partitionValues\":{},\"path\":\"a\",\"size\":10}}\n";
 
 const REMOVE: &[u8] =
@@ -27,8 +27,9 @@ const REMOVE: &[u8] =
 
 /// What another caller does, with the text of a commit in place of its bytes.
 #[derive(Clone, Copy)]
-enum Act {
+pub enum Act {
     Commits,
+    Lookup(u64),
     List,
     Get(LogName),
     Stage(u64, u128, &'static [u8]),
@@ -78,9 +79,10 @@ const PUBLISHED: [(u64, Act); 13] = [
 ];
 
 /// Turns that read.
-const READS: [(u64, Act); 4] = [
+const READS: [(u64, Act); 5] = [
     (1, Act::List),
     (1, Act::Commits),
+    (1, Act::Lookup(0)),
     (1, Act::Get(LogName::Other)),
     (1, Act::Get(LogName::Published(0))),
 ];
@@ -110,6 +112,7 @@ const BESIDE: [(u64, Act); 5] = [
 fn turn_of(alloc: Global, act: Act) -> Result<Turn, AllocError> {
     match act {
         Act::Commits => Ok(Turn::Commits),
+        Act::Lookup(version) => Ok(Turn::Lookup { version }),
         Act::List => Ok(Turn::List),
         Act::Get(name) => Ok(Turn::Get { name }),
         Act::Stage(version, id, text) => Ok(Turn::Stage {
@@ -138,7 +141,8 @@ fn turns_of(alloc: Global, rows: &[(u64, Act)]) -> Result<Vec<Foreign>, AllocErr
     Ok(turns)
 }
 
-fn among(alloc: Global, turns: Vec<Foreign>, fails: Vec<Fail>) -> Option<Meddler<MemStore>> {
+/// The caller of a new table among those who make these turns, unless the world does not start.
+pub fn among(alloc: Global, turns: Vec<Foreign>, fails: Vec<Fail>) -> Option<Meddler<MemStore>> {
     match World::start(alloc, MemStore::new(alloc, fails), LIMITS) {
         Ok(world) => Some(Meddler::new(world, turns)),
         Err(_) => None,
@@ -146,7 +150,7 @@ fn among(alloc: Global, turns: Vec<Foreign>, fails: Vec<Fail>) -> Option<Meddler
 }
 
 /// The caller of a new table among those who make these turns.
-fn caller_among(
+pub fn caller_among(
     alloc: Global,
     rows: &[(u64, Act)],
     fails: Vec<Fail>,
@@ -156,12 +160,13 @@ fn caller_among(
 }
 
 /// The numbers of commits and of reported versions at the end.
-fn end(caller: Meddler<MemStore>) -> (u64, u64) {
+pub fn end(caller: Meddler<MemStore>) -> (u64, u64) {
     let (catalog, _store) = caller.into_world().close();
     (catalog.count(), catalog.reported())
 }
 
-fn count<T: Steps>(caller: &mut T, alloc: Global) -> Result<u64, StepFault> {
+/// The number of commits that a turn is told.
+pub fn count<T: Steps>(caller: &mut T, alloc: Global) -> Result<u64, StepFault> {
     let commits = caller.commits(alloc)?;
     Ok(commits.count)
 }
@@ -177,6 +182,30 @@ fn two_turns(
     let second = count(&mut caller, alloc);
     let end = end(caller);
     Ok((first?, second?, end))
+}
+
+/// The version, the id and the time that the caller finds of version 0, and the number of commits.
+fn first_version<T: Steps>(
+    caller: &mut T,
+    alloc: Global,
+) -> Result<(Option<(u64, u128, i64)>, u64), StepFault> {
+    let looked = caller.lookup(alloc, 0)?;
+    let found = looked
+        .found
+        .map(|found| (found.version, found.id, found.time));
+    Ok((found, looked.count))
+}
+
+#[test]
+fn a_commit_of_another_is_found_by_its_version(rt: HostRuntime) -> Result<(), Stop> {
+    let alloc = rt.alloc();
+    let mut caller = caller_among(alloc, &ONE_VERSION, Vec::new(alloc))?;
+    let before = first_version(&mut caller, alloc);
+    let after = first_version(&mut caller, alloc);
+    assert_eq!(rt; end(caller), (1, 0));
+    assert_eq!(rt; before?, (None, 0));
+    assert_eq!(rt; after?, (Some((0, 1, 1000)), 1));
+    Ok(())
 }
 
 #[test]

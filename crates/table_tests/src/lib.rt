@@ -8,6 +8,12 @@ mod among_others;
 #[cfg(test)]
 mod callers;
 #[cfg(test)]
+mod kept_and_past;
+#[cfg(test)]
+mod past_rows;
+#[cfg(test)]
+mod refreshes;
+#[cfg(test)]
 mod untold;
 #[cfg(test)]
 mod worlds;

@@ -9,16 +9,23 @@ use table_world::{Bytes, Gone, LogName, Put, Solo, Staged, Start, StepFault, Ste
 
 const PUBLISHED: &str = "00000000000000000000.json";
 
-fn world_turns(world: &mut World<MemStore>, alloc: Global) -> Result<[u64; 3], StepFault> {
+fn world_turns(world: &mut World<MemStore>, alloc: Global) -> Result<[u64; 4], StepFault> {
     let commits = world.commits()?;
+    let looked = world.lookup(0)?;
     let first = world.stage(alloc, 0, 1, b"text")?;
     let second = world.stage(alloc, 0, 1, b"text")?;
     let names = world.list(alloc)?;
     let file = world.get(alloc, LogName::Staged(0, 1))?;
-    let stands = first == Staged::Done
+    let stands = looked.found.is_none()
+        && first == Staged::Done
         && second == Staged::Taken
         && matches!(file, Bytes::Whole(_));
-    Ok([commits.count, names.len() as u64, stands as u64])
+    Ok([
+        commits.count,
+        looked.count,
+        names.len() as u64,
+        stands as u64,
+    ])
 }
 
 #[test]
@@ -30,7 +37,7 @@ fn answers_of_a_world(rt: HostRuntime) -> Result<(), Stop> {
     let limits = world.limits();
     let answers = world_turns(&mut world, alloc);
     let (catalog, _store) = world.close();
-    assert_eq!(rt; answers?, [0, 1, 1]);
+    assert_eq!(rt; answers?, [0, 0, 1, 1]);
     assert_eq!(rt; limits, LIMITS);
     assert_eq!(rt; (count, catalog.count()), (0, 0));
     Ok(())
@@ -91,12 +98,19 @@ fn publish_first<T: Steps>(caller: &mut T, alloc: Global) -> Result<(Put, u64, G
     Ok((put, reported, gone))
 }
 
-/// The number of commits, and of files in the folder, and whether the published version 0 can be read.
+/// The number of commits, and of files in the folder, and whether the published version 0 can be read and the last
+/// version is found.
 fn looks<T: Steps>(caller: &mut T, alloc: Global) -> Result<(u64, usize, bool), StepFault> {
     let commits = caller.commits(alloc)?;
+    let looked = caller.lookup(alloc, commits.count.saturating_sub(1))?;
     let names = caller.list(alloc)?;
     let file = caller.get(alloc, LogName::Published(0))?;
-    Ok((commits.count, names.len(), matches!(file, Bytes::Whole(_))))
+    let is_found = looked.found.is_some() && looked.count == commits.count;
+    Ok((
+        commits.count,
+        names.len(),
+        matches!(file, Bytes::Whole(_)) && is_found,
+    ))
 }
 
 /// Ratifies, publishes and clears a version, and then looks at the table.

@@ -4,7 +4,8 @@ use Rattle.snapshot_load.specs.Causes.{ReadCause, CountsError}
 use Rattle.snapshot_load.proofs.Causing.{cause_later}
 use Rattle.snapshot_load.proofs.Faults.{error_counts}
 use Rattle.snapshot_load.proofs.Keeping.{reads_up}
-use Rattle.snapshot_load.proofs.Replaying.{reads_none, reads_more, reads_version, catalogue_kept, winners_step, winners_all, sound_kept}
+use Rattle.snapshot_load.proofs.Replaying.{reads_none, reads_more, reads_version, catalogue_kept, winners_step, winners_all, sound_kept, seen_same}
+use Rattle.snapshot_load.proofs.TextsRead.{actions_read_none, actions_read_more}
 use Rattle.snapshot_load.proofs.above.actions_above.Goals as goal
 
 pub version_actions-requires-clause-place : goal.version_actions-requires-clause-place
@@ -33,6 +34,10 @@ loop-version-preserved g c =
           λ t. rw (c.in_ok-push.ensures.items, c.in_ok-push.ensures.len)
           (winners_step _ _ _ _ _ _ _ c.loop-version.invariant.count c.in_ok-actions.ensures.reads (omega (arith, c.loop-version-test.true, now.count))
           (c.in_ok-actions.ensures.actions t) (c.loop-version.invariant.actions t));
+      read =
+          rw (c.in_ok-push.ensures.items, c.in_ok-push.ensures.len)
+          (actions_read_more _ _ _ _ _ _ _ _ (seen_same _ _ _ c.in_ok-actions.ensures.reads) c.loop-version.invariant.count (omega (arith, c.loop-version-test.true, now.count))
+          c.in_ok-actions.ensures.read c.loop-version.invariant.read);
     }
 
 pub returns-clause-actions : goal.returns-clause-actions
@@ -62,6 +67,7 @@ loop-version-init g c = record {
   faults = refl;
   count = search rules;
   actions = search rules;
+  read = actions_read_none _ _ _ _ _ (search rules) (search rules);
 }
 
 pub returns-in_err-actions-clause-counts : goal.returns-in_err-actions-clause-counts
@@ -72,3 +78,6 @@ returns-in_err-actions-clause-counts g c =
 
 pub returns-in_err-push-clause-grows : goal.returns-in_err-push-clause-grows
 returns-in_err-push-clause-grows g c = grows_trans _ _ _ c.loop-version.invariant.grows c.in_ok-actions.ensures.grows
+
+pub returns-in_err-actions-clause-grows : goal.returns-in_err-actions-clause-grows
+returns-in_err-actions-clause-grows g c = grows_trans _ _ _ c.loop-version.invariant.grows c.in_err-actions.ensures.grows

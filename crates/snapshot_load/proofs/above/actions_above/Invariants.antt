@@ -3,6 +3,7 @@ use Rattle.std.specs.Prelude.{map}
 use Rattle.table_model.specs.Log.{history}
 use Rattle.table_model.specs.Knowledge.{IsGrown, IsValid}
 use Rattle.snapshot_load.specs.Reading.{OnlyReads}
+use Rattle.snapshot_load.specs.Texts.{AreActionsRead}
 use Rattle.snapshot_load.proofs.above.actions_above.Given as goal
 
 abbrev pub invariant-loop-version : goal.invariant-loop-version
@@ -14,4 +15,5 @@ invariant-loop-version g l = record {
   faults : (g.T.Steps.known l.caller).faults ≡ (g.T.Steps.known l.fn.caller).faults;
   count : l.after + 1 + vec_len l.winners ≡ l.version;
   actions : IsTrue g.T.Steps.tells → map (λ a. a.items) l.winners.items ≡ history (take (vec_len l.winners) (drop (l.after + 1) (g.T.Steps.known l.caller).seen));
+  read : AreActionsRead g.T.Steps.tells (g.T.Steps.known l.caller).seen (l.after + 1) (vec_len l.winners) (map (λ a. a.items) l.winners.items);
 }

@@ -1,17 +1,17 @@
-use Rattle.std.proofs.Common.{rules, ◌≤◌, ◌*◌, ◌<◌, ◌∙◌, ℕ, arith, length, subst, sym, ap, ℤ, pos, Option}
-use Rattle.std.specs.Int.{w64}
-use Rattle.std.proofs.lemmas.Int.{to_z-of_z}
-use Rattle.std.specs.Prelude.{Contains, unwrap_or}
+use Rattle.std.proofs.Common.{rules, ◌≡◌, ◌≤◌, ◌*◌, ◌<◌, ◌∙◌, ℕ, arith, length, subst, sym, ap}
+use Rattle.std.specs.Prelude.{Contains}
 use Rattle.log_names.specs.declared.LogName.TheVariants as name
 use Rattle.snapshot_load.specs.Causes.{LoadCause}
 use Rattle.snapshot_load.specs.Converting.{of_fault}
-use Rattle.snapshot_load.proofs.Causing.{asking_refused, load_cause, read_refused, seen_more}
+use Rattle.snapshot_load.proofs.Causing.{asking_refused, answer_cause, load_cause, read_refused, seen_more}
 use Rattle.snapshot_load.proofs.Keeping.{loads_refused, loads_asked, loads_listed, loads_unlisted, loads_read}
 use Rattle.snapshot_load.proofs.Replaying.{seen_same}
 use Rattle.snapshot_load.proofs.Listing.{listed_published}
 use Rattle.table_model.proofs.Growing.{grows_trans}
 use Rattle.table_model.specs.Knowledge.{Knowledge}
-use Rattle.snapshot_load.proofs.Loaded.{is_snapshot}
+use Rattle.snapshot_load.proofs.Faults.{answer_counts}
+use Rattle.snapshot_load.proofs.TextsRead.{replay_none}
+use Rattle.snapshot_load.proofs.Loaded.{newest, unless_memory, asked_now, asked_listed, asked_read, asked_faults, listed_faults}
 use Rattle.snapshot_load.proofs.loads.load.Goals as goal
 
 pub returns-in_err-commits-clause-cause : goal.returns-in_err-commits-clause-cause
@@ -29,35 +29,44 @@ returns-in_err-names-clause-cause g c =
     load_cause _ _ _ _ _ c.in_ok-commits.ensures.grows some (read_refused _ _ _ _ _ c.in_err-names.ensures.learns) in
     search rules
 
-pub replay-requires-clause-listed : goal.replay-requires-clause-listed
-replay-requires-clause-listed g c = λ t.
+pub snapshot_from-requires-clause-listed : goal.snapshot_from-requires-clause-listed
+snapshot_from-requires-clause-listed g c = λ t.
     let shows = c.in_ok-names.ensures.learns in
     listed_published c.in_ok-names.names.items _ _ _ (shows.shows t) shows.published (subst (λ xs. (v : ℕ) → v < c.leading_published-listed.result → Contains xs (name.Published v)) c.as_slice.ensures.value c.leading_published-listed.ensures)
 
-pub returns-in_err-state-clause-cause : goal.returns-in_err-state-clause-cause
-returns-in_err-state-clause-cause g c =
-    let some : 0 < length (g.T.Steps.known c.replay.new.caller).seen =
-    let more = seen_more _ _ c.in_ok-names.ensures.grows in
-    let most = seen_more _ _ c.in_err-state.ensures.grows in
-    omega (arith, more, most, c.in_ok-commits.ensures.learns.count, c.if-commits-eq0.false) in
-    let i : LoadCause g.T.Steps.tells c.in_err-state.field-0.0 (g.T.Steps.known c.args.caller.now) (g.T.Steps.known c.replay.new.caller) =
-    load_cause _ _ _ _ _ (grows_trans _ _ _ c.in_ok-commits.ensures.grows c.in_ok-names.ensures.grows) some c.in_err-state.ensures.cause in
-    search rules
+pub snapshot_from-requires-clause-base : goal.snapshot_from-requires-clause-base
+snapshot_from-requires-clause-base g c = replay_none _ _ _ c.empty.ensures
 
-pub returns-in_err-state-clause-after : goal.returns-in_err-state-clause-after
-returns-in_err-state-clause-after g c =
-    g.met.T.Steps.after_both _ _ _ (g.met.T.Steps.after_both _ _ _ c.in_ok-commits.ensures.after c.in_ok-names.ensures.after) c.in_err-state.ensures.after
+pub returns-clause-newest : goal.returns-clause-newest
+returns-clause-newest g c =
+    newest _ _ _ c.in_ok-commits.commits.count
+    (c.in_ok-commits.ensures.learns.count ∙ sym (ap (λ (k : Knowledge). length k.seen) c.in_ok-names.ensures.learns.same) ∙ sym (ap length (seen_same _ _ _ c.snapshot_from.ensures.reads)))
+    c.snapshot_from.ensures.snapshot c.snapshot_from.ensures.version
+
+pub returns-clause-cause : goal.returns-clause-cause
+returns-clause-cause g c =
+    let more = seen_more _ _ c.in_ok-names.ensures.grows in
+    let most = seen_more _ _ c.snapshot_from.ensures.grows in
+    answer_cause _ _ _ _ _ (grows_trans _ _ _ c.in_ok-commits.ensures.grows c.in_ok-names.ensures.grows)
+    (omega (arith, more, most, c.in_ok-commits.ensures.learns.count, c.if-commits-eq0.false)) c.snapshot_from.ensures.cause
+
+pub returns-clause-counts : goal.returns-clause-counts
+returns-clause-counts g c =
+    let none : (g.T.Steps.known c.list.new.self).faults ≡ (g.T.Steps.known c.args.caller.now).faults =
+    listed_faults _ _ _ _ c.in_ok-names.ensures.learns ∙ asked_faults _ _ _ _ c.in_ok-commits.ensures.learns in
+    answer_counts _ _ (g.T.Steps.known c.args.caller.now) (g.T.Steps.known c.list.new.self) _ none c.snapshot_from.ensures.counts
+
+pub returns-clause-asked : goal.returns-clause-asked
+returns-clause-asked g c =
+    unless_memory _
+    (asked_read _ _ _ _ (asked_listed _ _ _ _ _ (asked_now _ _ _ _ c.in_ok-commits.ensures.learns) c.in_ok-names.ensures.learns) c.snapshot_from.ensures.reads)
+
+pub returns-clause-grows : goal.returns-clause-grows
+returns-clause-grows g c = grows_trans _ _ _ (grows_trans _ _ _ c.in_ok-commits.ensures.grows c.in_ok-names.ensures.grows) c.snapshot_from.ensures.grows
 
 pub returns-clause-after : goal.returns-clause-after
 returns-clause-after g c =
-    g.met.T.Steps.after_both _ _ _ (g.met.T.Steps.after_both _ _ _ c.in_ok-commits.ensures.after c.in_ok-names.ensures.after) c.in_ok-state.ensures.after
-
-pub returns-clause-loaded : goal.returns-clause-loaded
-returns-clause-loaded g c =
-    is_snapshot _ c.in_ok-state.state _ c.in_ok-commits.commits (g.T.Steps.known c.list.new.self) _ _
-    (c.in_ok-commits.ensures.learns.count ∙ sym (ap (λ (k : Knowledge). length k.seen) c.in_ok-names.ensures.learns.same))
-    c.in_ok-state.ensures.reads c.if-commits-eq0.false c.in_ok-state.ensures.state c.in_ok-state.ensures.time
-    (to_z-of_z w64 c.unwrap_or-time.result (search rules) ∙ c.unwrap_or-time.ensures ∙ ap (λ (o : Option ℤ). unwrap_or o (pos 0)) c.time.ensures)
+    g.met.T.Steps.after_both _ _ _ (g.met.T.Steps.after_both _ _ _ c.in_ok-commits.ensures.after c.in_ok-names.ensures.after) c.snapshot_from.ensures.after
 
 pub returns-in_err-commits-clause-turns : goal.returns-in_err-commits-clause-turns
 returns-in_err-commits-clause-turns g c = loads_refused 1 _ _ c.in_err-commits.field-0.0 _ c.in_err-commits.ensures.learns
@@ -68,18 +77,10 @@ returns-then-commits-eq0-clause-turns g c = loads_asked _ 1 _ _ _ _ c.in_ok-comm
 pub returns-in_err-names-clause-turns : goal.returns-in_err-names-clause-turns
 returns-in_err-names-clause-turns g c = loads_unlisted _ _ _ _ c.in_err-names.field-0.0 _ (loads_asked _ 0 0 _ _ _ c.in_ok-commits.ensures.learns) c.in_err-names.ensures.learns
 
-pub returns-in_err-state-clause-turns : goal.returns-in_err-state-clause-turns
-returns-in_err-state-clause-turns g c =
-    let listed = loads_listed _ 0 _ _ _ _ (loads_asked _ 0 0 _ _ _ c.in_ok-commits.ensures.learns) c.in_ok-names.ensures.learns in
-    let count = c.in_ok-commits.ensures.learns.count in
-    let same = ap (λ (k : Knowledge). length k.seen) c.in_ok-names.ensures.learns.same in
-    let seen = ap length (seen_same _ _ _ c.in_err-state.ensures.reads) in
-    loads_read 1 _ _ _ _ _ listed c.in_err-state.ensures.reads (omega (arith, count, same, seen))
-
 pub returns-clause-turns : goal.returns-clause-turns
 returns-clause-turns g c =
     let listed = loads_listed _ 0 _ _ _ _ (loads_asked _ 0 0 _ _ _ c.in_ok-commits.ensures.learns) c.in_ok-names.ensures.learns in
     let count = c.in_ok-commits.ensures.learns.count in
     let same = ap (λ (k : Knowledge). length k.seen) c.in_ok-names.ensures.learns.same in
-    let seen = ap length (seen_same _ _ _ c.in_ok-state.ensures.reads) in
-    loads_read 1 _ _ _ _ _ listed c.in_ok-state.ensures.reads (omega (arith, count, same, seen))
+    let seen = ap length (seen_same _ _ _ c.snapshot_from.ensures.reads) in
+    loads_read 1 _ _ _ _ _ listed c.snapshot_from.ensures.reads (omega (arith, count, same, seen, c.if-commits-eq0.false))
