@@ -32,7 +32,7 @@ NotRunBy words tells files before now status.Usage = ¬ (IsRun words) × (now �
 NotRunBy words tells files before now status.Memory = IsRun words × (now ≡ before)
 NotRunBy words tells files before now status.ReadFault = ⊥
 NotRunBy words tells files before now status.WriteFault = ⊥
-NotRunBy words tells files before now status.StoreFault = IsRun words × (before < now)
+NotRunBy words tells files before now status.StoreFault = IsRun words × (now ≡ before + 1)
 NotRunBy words tells files before now status.NotEmpty = IsRun words × (IsTrue tells → IsSome (first_log_name (names_of files)))
 NotRunBy words tells files before now status.TooMuch = ⊥
 
@@ -43,11 +43,13 @@ pub record CountsCommits (said unsaid log : ℕ) (st : Status) : Type 0 where
   pub cut : 0 < unsaid → IsCutShort st
 
 -- a session over a new table, and the world after the drain
-pub record HasRun (limits : Limits) (tells : Bool) (files : Files) (source : SourceView) (sink : SinkView) (clock : ClockView) (ids : IdsView) (st : Status) (world : WorldData) : Type 0 where
+pub record HasRun (limits : Limits) (tells : Bool) (files : Files) (before : ℕ) (source : SourceView) (sink : SinkView) (clock : ClockView) (ids : IdsView) (st : Status) (world : WorldData) : Type 0 where
   -- the folder had no name of the log
   pub empty : IsTrue tells → first_log_name (names_of files) ≡ None
   pub limits_are : world.limits ≡ limits
   pub consistent : IsConsistent world
+  -- the store's count of faults when it was handed in
+  pub first : world.first ≡ before
   -- the session, of one who knew nothing before it and had seen all commits after it
   pub ended : End
   pub known : Knowledge

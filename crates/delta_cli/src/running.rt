@@ -44,7 +44,7 @@ pub fn run<S: Store, I: Source, O: Sink, C: Clock, U: Ids>(
     ensures usage { status_in result ≡ status.Usage ↔ (¬ (IsRun words.now)) }
     ensures ended { MatchEnded result
         (λ st back. NotRunBy words.now S.tells (S.files store) (S.faults store) (S.faults back) st)
-        (λ st world. HasRun run_limits S.tells (S.files store)
+        (λ st world. HasRun run_limits S.tells (S.files store) (S.faults store)
         (source_view I.tells (I.taken source.old) (I.left source.old)
         (I.taken source.new) (I.left source.new))
         (sink_view O.tells (O.written sink.old) (O.written sink.new))
@@ -52,7 +52,8 @@ pub fn run<S: Store, I: Source, O: Sink, C: Clock, U: Ids>(
         (ids_view (U.differ ids.old) (U.given ids.old) (U.differ ids.new) (U.given ids.new))
         st world) }
     ensures untouched { MatchEnded result
-        (λ st back. (S.files back ≡ S.files store) × (source.new ≡ source.old) × (sink.new ≡ sink.old))
+        (λ st back. (S.files back ≡ S.files store)
+        × (source.new ≡ source.old) × (sink.new ≡ sink.old))
         (λ st world. ⊤) }
     ensures read { IsCaused (status_in result ≡ status.ReadFault) (I.faults source.old)
         (I.faults source.new) }
@@ -91,9 +92,9 @@ fn hold<S: Store, I: Source, O: Sink, C: Clock, U: Ids>(
     clock: &mut C,
     ids: &mut U,
 ) -> Ended<S>
-    requires { IsFresh LIMITS world.files S.tells world }
+    requires { IsFresh LIMITS world.files world.first S.tells world }
     ensures run { MatchEnded result (λ st back. ⊥)
-        (λ st after. HasRun LIMITS S.tells world.files
+        (λ st after. HasRun LIMITS S.tells world.files world.first
         (source_view I.tells (I.taken source.old) (I.left source.old)
         (I.taken source.new) (I.left source.new))
         (sink_view O.tells (O.written sink.old) (O.written sink.new))

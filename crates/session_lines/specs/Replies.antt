@@ -8,10 +8,11 @@ use Rattle.action_types.specs.declared.actions.Domain.{Domain}
 use Rattle.action_fields.specs.Canonical.{Fields, with_fields, integer_data, body_data}
 use Rattle.conflict_rules.specs.declared.clash.Rule.{Rule}
 use Rattle.conflict_rules.specs.declared.clash.Rule.TheVariants as clash
-use Rattle.log_names.specs.declared.LogName.{LogName}
 use Rattle.log_names.specs.Texts.{name_text, uuid_text}
 use Rattle.reconcile.specs.declared.state.State.{State}
 use Rattle.reconcile.specs.Standing.{files_in, tombstones_in, domains_in, txns_in, protocol_in, meta_in}
+use Rattle.table_model.specs.declared.answers.Spot.{Spot}
+use Rattle.table_model.specs.declared.answers.Spot.TheVariants as spot
 use Rattle.table_rules.specs.declared.broken.Broken.{Broken}
 use Rattle.table_rules.specs.declared.broken.Broken.TheVariants as broken
 use Rattle.session_lines.specs.declared.fault.LineWhy.{LineWhy}
@@ -81,9 +82,9 @@ rule_name clash.Append = codes "append"
 rule_name clash.Domain = codes "domain"
 
 -- the file's name, or the empty text for the folder
-abbrev pub spot_name : Option LogName → List ℕ
-spot_name None = []
-spot_name (Some n) = unwrap_or (name_text n) []
+abbrev pub spot_name : Spot → List ℕ
+spot_name spot.Folder = []
+spot_name (spot.File n) = unwrap_or (name_text n) []
 
 -- ---- values
 
@@ -152,6 +153,9 @@ abbrev pub loaded_fields : ℕ → State → ℤ → ℕ → Fields
 loaded_fields latest s time version =
     (codes "domains", domains_data s) ∷ (codes "files", Some (files_data s)) ∷ (table_fields latest s ++ end_fields s time version)
 
+abbrev pub loaded_data : ℕ → State → ℤ → ℕ → Data
+loaded_data latest s time version = object (with_fields (loaded_fields latest s time version))
+
 abbrev pub bad_line_fields : ℕ → List ℕ → Fields
 bad_line_fields at reason = (codes "at", Some (count_data at)) ∷ (codes "reply", said (codes "badLine")) ∷ (codes "why", said reason) ∷ []
 
@@ -198,7 +202,7 @@ abbrev pub reply_fields : Reply → Fields
 reply_fields (reply.Committed base time version) = committed_front base ++ moment_fields time version
 reply_fields (reply.Already latest recorded) =
     (codes "latest", Some (count_data latest)) ∷ (codes "recorded", Some (integer_data recorded)) ∷ (codes "reply", said (codes "already")) ∷ []
-reply_fields (reply.Loaded latest s time version) = loaded_fields latest s time version
+reply_fields (reply.Loaded s) = loaded_fields s.latest s.state s.time s.version
 reply_fields reply.NoTable = named_fields (codes "noTable")
 reply_fields (reply.Exists latest) = latest_fields latest (codes "exists")
 reply_fields (reply.Broken base b) = (codes "base", Some (base_data base)) ∷ (codes "key", said (broken_key b)) ∷ broken_rest b
@@ -214,7 +218,7 @@ reply_fields (reply.Taken base id version) =
     ∷ (codes "id", said (uuid_text id))
     ∷ (codes "reply", said (codes "taken"))
     ∷ (codes "version", Some (count_data version)) ∷ []
-reply_fields (reply.Fault file) = (codes "name", said (spot_name file)) ∷ (codes "reply", said (codes "fault")) ∷ []
+reply_fields (reply.Fault at) = (codes "name", said (spot_name at)) ∷ (codes "reply", said (codes "fault")) ∷ []
 reply_fields reply.Memory = named_fields (codes "memory")
 reply_fields (reply.BadLine at w) = bad_line at w
 
@@ -226,7 +230,7 @@ reply_text_of r = compact_text (reply_data r) ++ 10 ∷ []
 
 -- every reply but Loaded
 abbrev pub IsShort : Reply → Type 0
-IsShort (reply.Loaded latest s time version) = ⊥
+IsShort (reply.Loaded s) = ⊥
 IsShort (reply.Committed base time version) = ⊤
 IsShort (reply.Already latest recorded) = ⊤
 IsShort reply.NoTable = ⊤
@@ -238,6 +242,6 @@ IsShort (reply.Full latest) = ⊤
 IsShort (reply.TimeEnd base last) = ⊤
 IsShort (reply.TooLarge base bytes) = ⊤
 IsShort (reply.Taken base id version) = ⊤
-IsShort (reply.Fault file) = ⊤
+IsShort (reply.Fault at) = ⊤
 IsShort reply.Memory = ⊤
 IsShort (reply.BadLine at w) = ⊤

@@ -6,8 +6,7 @@ ghost use Rattle.serde_json.specs.Written.{comma_if, compact_text};
 ghost use Rattle.action_fields.specs.Canonical.{body_data, integer_data};
 ghost use Rattle.reconcile.specs.Standing.{domains_in};
 ghost use Rattle.session_lines.specs.Loaded.{early_text, first_members, later_members, member_text, name_text};
-ghost use Rattle.session_lines.specs.declared.reply.Reply.TheVariants as reply;
-ghost use Rattle.session_lines.specs.Replies.{all_domains_data, are_some, count_data, domains_data, end_fields, files_data, gone_data, meta_data, protocol_data, reply_data, table_fields, txns_data};
+ghost use Rattle.session_lines.specs.Replies.{all_domains_data, are_some, count_data, domains_data, end_fields, files_data, gone_data, loaded_data, meta_data, protocol_data, table_fields, txns_data};
 
 use crate::put::{put_count, put_integer, put_text};
 use action_fields::push_body;
@@ -25,7 +24,7 @@ pub(crate) fn loaded_text(
     time: i64,
     version: u64,
 ) -> Result<Vec<u8>, AllocError>
-    ensures { IfOk result (λ v. v.items ≡ compact_text (reply_data (reply.Loaded latest state.now time version))) }
+    ensures { IfOk result (λ v. v.items ≡ compact_text (loaded_data latest state.now time version)) }
 {
     let mut out = Vec::new(alloc);
     push_first(alloc, &mut out, state)?;

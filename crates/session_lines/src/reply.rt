@@ -1,8 +1,7 @@
 use crate::fault::LineWhy;
 use action_types::Name;
 use conflict_rules::Rule;
-use log_names::LogName;
-use reconcile::State;
+use table_model::{Snapshot, Spot};
 use table_rules::Broken;
 
 /// The answer to a line. Versions count from 0, times are in milliseconds since 1970 UTC; `base` is the version that a write was
@@ -21,12 +20,7 @@ pub enum Reply {
         recorded: i64,
     },
     /// The state of a version.
-    Loaded {
-        latest: u64,
-        state: State,
-        time: i64,
-        version: u64,
-    },
+    Loaded(Snapshot),
     /// The table has no commit.
     NoTable,
     /// The table has a commit.
@@ -72,9 +66,9 @@ pub enum Reply {
         id: u128,
         version: u64,
     },
-    /// The store failed at this file, or at the folder where there is none.
+    /// The store failed at this spot.
     Fault {
-        file: Option<LogName>,
+        spot: Spot,
     },
     /// Memory ran out.
     Memory,

@@ -16,8 +16,8 @@ use crate::reply::Reply;
 use action_types::Name;
 use conflict_rules::Rule;
 use json::Writer;
-use log_names::LogName;
 use std::alloc::AllocError;
+use table_model::Spot;
 use table_rules::Broken;
 use uuid::Uuid;
 
@@ -42,7 +42,7 @@ fn put_fields(out: &mut Writer, reply: &Reply) -> Result<(), AllocError>
             version,
         } => put_committed(out, *base, *time, *version),
         Reply::Already { latest, recorded } => put_already(out, *latest, *recorded),
-        Reply::Loaded { .. } => Ok(()),
+        Reply::Loaded(_) => Ok(()),
         Reply::NoTable => put_named(out, "noTable"),
         Reply::Exists { latest } => put_latest(out, *latest, "exists"),
         Reply::Broken { base, why } => put_broken(out, *base, why),
@@ -59,7 +59,7 @@ fn put_fields(out: &mut Writer, reply: &Reply) -> Result<(), AllocError>
         Reply::TimeEnd { base, last } => put_time_end(out, *base, *last),
         Reply::TooLarge { base, bytes } => put_too_large(out, *base, *bytes),
         Reply::Taken { base, id, version } => put_taken(out, *base, *id, *version),
-        Reply::Fault { file } => put_fault(out, file),
+        Reply::Fault { spot } => put_fault(out, spot),
         Reply::Memory => put_named(out, "memory"),
         Reply::BadLine { at, why } => put_bad_line(out, *at, why),
     }
@@ -219,21 +219,21 @@ fn put_id(out: &mut Writer, id: u128) -> Result<(), AllocError>
     )
 }
 
-fn put_fault(out: &mut Writer, file: &Option<LogName>) -> Result<(), AllocError>
-    ensures { Puts result out.old out.new (fields_tokens (reply_fields (Reply.Fault file.now))) }
+fn put_fault(out: &mut Writer, spot: &Spot) -> Result<(), AllocError>
+    ensures { Puts result out.old out.new (fields_tokens (reply_fields (Reply.Fault spot.now))) }
 {
-    put_spot(out, file)?;
+    put_spot(out, spot)?;
     put_text(out, "reply", "fault")
 }
 
 /// The name of the file, or the empty text for the folder.
 #[tactic(auto)]
-fn put_spot(out: &mut Writer, file: &Option<LogName>) -> Result<(), AllocError>
-    ensures { Puts result out.old out.new (field_tokens (codes "name") (Some (string (spot_name file.now)))) }
+fn put_spot(out: &mut Writer, spot: &Spot) -> Result<(), AllocError>
+    ensures { Puts result out.old out.new (field_tokens (codes "name") (Some (string (spot_name spot.now)))) }
 {
-    match file {
-        None => put_text(out, "name", ""),
-        Some(file) => match file.text() {
+    match spot {
+        Spot::Folder => put_text(out, "name", ""),
+        Spot::File(name) => match name.text() {
             None => put_text(out, "name", ""),
             Some(text) => put_text(out, "name", text.as_str()),
         },

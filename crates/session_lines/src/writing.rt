@@ -24,12 +24,13 @@ fn object_text(alloc: Global, reply: &Reply) -> Result<Vec<u8>, AllocError>
     ensures { IfOk result (λ v. v.items ≡ compact_text (reply_data reply.now)) }
 {
     match reply {
-        Reply::Loaded {
-            latest,
-            state,
-            time,
-            version,
-        } => loaded_text(alloc, *latest, state, *time, *version),
+        Reply::Loaded(snapshot) => loaded_text(
+            alloc,
+            snapshot.latest,
+            &snapshot.state,
+            snapshot.time,
+            snapshot.version,
+        ),
         _ => short_text(alloc, reply),
     }
 }

@@ -8,6 +8,7 @@ use session_lines::{LineWhy, Reply, Request, read_request, reply_text};
 use std::alloc::Global;
 use std::str;
 use std::test::Fail;
+use table_model::{Snapshot, Spot};
 use table_rules::Broken;
 
 /// What a line is read as.
@@ -114,7 +115,7 @@ fn plain(number: u8) -> Reply {
             version: 1,
         },
         9 => Reply::Fault {
-            file: Some(LogName::Published(7)),
+            spot: Spot::File(LogName::Published(7)),
         },
         10 => Reply::Memory,
         _ => Reply::BadLine {
@@ -138,12 +139,12 @@ fn named(alloc: Global, number: u8) -> Result<Reply, Fail> {
             at: 4,
             why: LineWhy::Field { field: name },
         }),
-        3 => Ok(Reply::Loaded {
-            latest: 1,
-            state: State::empty(alloc),
-            time: 1000,
+        3 => Ok(Reply::Loaded(Snapshot {
             version: 1,
-        }),
+            latest: 1,
+            time: 1000,
+            state: State::empty(alloc),
+        })),
         4 => Ok(broken(Broken::NotLive { path: name, vector })),
         5 => Ok(broken(Broken::AppendOnly { path: name, vector })),
         6 => Ok(broken(Broken::Partition { path: name, vector })),

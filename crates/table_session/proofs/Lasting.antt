@@ -6,7 +6,7 @@ use Rattle.std.proofs.lemmas.List.{take-append-le}
 use Rattle.reconcile.specs.Standing.{StandsFor}
 use Rattle.table_model.specs.Log.{Commit, commit_at, commit_time, history, no_commit}
 use Rattle.table_model.specs.Knowledge.{Knowledge, StartsWith}
-use Rattle.snapshot_load.specs.declared.answers.Snapshot.{Snapshot}
+use Rattle.table_model.specs.declared.snapshot.Snapshot.{Snapshot}
 use Rattle.snapshot_load.specs.declared.errors.LoadError.{LoadError}
 use Rattle.writer_txn.proofs.Lasting.{create_stands_longer, write_stands_longer}
 use Rattle.session_lines.specs.declared.fault.LineWhy.{LineWhy}

@@ -8,7 +8,7 @@ use Rattle.lake_io.specs.Reading.{line_limit}
 use Rattle.action_fields.specs.Gives.{Gives}
 use Rattle.table_model.specs.Knowledge.{Knowledge, IsGrown}
 use Rattle.table_model.proofs.Growing.{grows_refl}
-use Rattle.snapshot_load.specs.declared.answers.Snapshot.{Snapshot}
+use Rattle.table_model.specs.declared.snapshot.Snapshot.{Snapshot}
 use Rattle.snapshot_load.specs.declared.errors.LoadError.{LoadError}
 use Rattle.snapshot_load.specs.declared.errors.LoadError.TheVariants as load
 use Rattle.snapshot_load.specs.Snapshots.{IsSnapshot}

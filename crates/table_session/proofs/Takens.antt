@@ -1,6 +1,6 @@
 -- The names that replies tell as taken are those of the answers that they tell.
 use Rattle.std.proofs.Common.{◌≡◌, [], refl, Result, Ok, Err, ℕ}
-use Rattle.snapshot_load.specs.declared.answers.Snapshot.{Snapshot}
+use Rattle.table_model.specs.declared.snapshot.Snapshot.{Snapshot}
 use Rattle.snapshot_load.specs.declared.errors.LoadError.{LoadError}
 use Rattle.snapshot_load.specs.declared.errors.LoadError.TheVariants as load
 use Rattle.writer_txn.specs.declared.answers.Written.{Written}

@@ -1,7 +1,7 @@
 -- What a reply says of its own moment: k was known before the request, m after it.
 use Rattle.std.specs.Prelude.{◌≡◌, ◌+◌, Bool, length, IfOk, IfErr, Result, Ok, Err}
 use Rattle.table_model.specs.Knowledge.{Knowledge}
-use Rattle.snapshot_load.specs.declared.answers.Snapshot.{Snapshot}
+use Rattle.table_model.specs.declared.snapshot.Snapshot.{Snapshot}
 use Rattle.snapshot_load.specs.declared.errors.LoadError.{LoadError}
 use Rattle.snapshot_load.specs.Causes.{LoadCause, UnlessMemory}
 use Rattle.snapshot_load.specs.Reading.{OnlyLoads, HasAsked}

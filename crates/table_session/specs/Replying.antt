@@ -1,9 +1,6 @@
 -- The replies that tell the answers of the calls.
-use Rattle.std.specs.Prelude.{ℕ, Option, Some, None, Result, Ok, Err}
-use Rattle.log_names.specs.declared.LogName.{LogName}
-use Rattle.table_model.specs.declared.answers.Spot.{Spot}
-use Rattle.table_model.specs.declared.answers.Spot.TheVariants as spot
-use Rattle.snapshot_load.specs.declared.answers.Snapshot.{Snapshot}
+use Rattle.std.specs.Prelude.{ℕ, Result, Ok, Err}
+use Rattle.table_model.specs.declared.snapshot.Snapshot.{Snapshot}
 use Rattle.snapshot_load.specs.declared.errors.LoadError.{LoadError}
 use Rattle.snapshot_load.specs.declared.errors.LoadError.TheVariants as load
 use Rattle.writer_txn.specs.declared.answers.Written.{Written}
@@ -16,11 +13,6 @@ use Rattle.session_lines.specs.declared.fault.LineWhy.TheVariants as why
 use Rattle.session_lines.specs.declared.reply.Reply.{Reply}
 use Rattle.session_lines.specs.declared.reply.Reply.TheVariants as reply
 
--- the file of a spot; none for the folder
-abbrev pub file_of : Spot → Option LogName
-file_of spot.Folder = None
-file_of (spot.File name) = Some name
-
 -- to the line of this number, of which no request was read
 abbrev pub refusal_reply : ℕ → BadLine → Reply
 refusal_reply at bad.Utf8 = reply.BadLine at why.Utf8
@@ -32,11 +24,11 @@ refusal_reply at bad.Memory = reply.Memory
 
 -- to a load of the last version; the errors of other loads don't come
 abbrev pub loaded_reply : Result Snapshot LoadError → Reply
-loaded_reply (Ok s) = reply.Loaded s.latest s.state s.time s.version
+loaded_reply (Ok s) = reply.Loaded s
 loaded_reply (Err load.NoTable) = reply.NoTable
 loaded_reply (Err (load.AfterLatest version latest)) = reply.Memory
 loaded_reply (Err (load.BeforeFirst first latest)) = reply.Memory
-loaded_reply (Err (load.Fault at)) = reply.Fault (file_of at)
+loaded_reply (Err (load.Fault at)) = reply.Fault at
 loaded_reply (Err load.Memory) = reply.Memory
 
 -- to a create or a write
@@ -52,5 +44,5 @@ written_reply (Err (failed.Full latest)) = reply.Full latest
 written_reply (Err (failed.TimeEnd base last)) = reply.TimeEnd base last
 written_reply (Err (failed.TooLarge base bytes)) = reply.TooLarge base bytes
 written_reply (Err (failed.Taken base version id)) = reply.Taken base id version
-written_reply (Err (failed.Fault at)) = reply.Fault (file_of at)
+written_reply (Err (failed.Fault at)) = reply.Fault at
 written_reply (Err failed.Memory) = reply.Memory

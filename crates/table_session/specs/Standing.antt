@@ -3,7 +3,7 @@ use Rattle.std.specs.Prelude.{◌≡◌, ◌<◌, ◌+◌, ◌⊎◌, Bool, List
 use Rattle.text_lines.specs.Lines.{Numbered}
 use Rattle.reconcile.specs.Standing.{StandsFor}
 use Rattle.table_model.specs.Log.{Commit, commit_at, commit_time, history}
-use Rattle.snapshot_load.specs.declared.answers.Snapshot.{Snapshot}
+use Rattle.table_model.specs.declared.snapshot.Snapshot.{Snapshot}
 use Rattle.writer_txn.specs.Creating.{CreateStands}
 use Rattle.writer_txn.specs.Writing.{WriteStands}
 use Rattle.session_lines.specs.declared.fault.LineWhy.{LineWhy}

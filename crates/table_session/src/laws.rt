@@ -1,9 +1,10 @@
 //! What the replies of a session say together.
-ghost use Rattle.std.specs.Prelude.{◌≡◌, ◌≤◌, ◌+◌, All, Bool, Contains, ℕ, ℤ, List, Some, length};
+ghost use Rattle.std.specs.Prelude.{◌≡◌, ◌≤◌, ◌+◌, All, Bool, Contains, ℕ, List, Some, length};
 ghost use Rattle.lake_io.specs.declared.answers.End.{End};
 ghost use Rattle.log_names.specs.declared.LogName.TheVariants as name;
 ghost use Rattle.table_model.specs.Log.{Commit};
 ghost use Rattle.table_model.specs.Knowledge.{Knowledge, StartsWith, Terms};
+ghost use Rattle.table_model.specs.declared.snapshot.Snapshot.{Snapshot};
 ghost use Rattle.answer_names.specs.Others.{IsUncontested, IsUntaken};
 ghost use Rattle.answer_names.specs.Together.{takens_in, versions_in};
 ghost use Rattle.answer_names.specs.Whole.{IsWhole};
@@ -57,8 +58,7 @@ pub fn replies_where_nobody_else_stages_are_untaken()
 
 /// The text of a Loaded reply is that of the commits: whatever state stands for them gives the same.
 pub fn loaded_replies_of_a_log_have_one_text()
-    ensures { (s t : State) (log : Log) (latest : ℕ) (time : ℤ) (version : ℕ) → StandsFor s log
-        → StandsFor t log
-        → reply_text_of (reply.Loaded latest s time version)
-        ≡ reply_text_of (reply.Loaded latest t time version) }
+    ensures { (s : Snapshot) (t u : State) (log : Log) → StandsFor t log → StandsFor u log
+        → reply_text_of (reply.Loaded (record s { state = t }))
+        ≡ reply_text_of (reply.Loaded (record s { state = u })) }
 {}

@@ -1,10 +1,9 @@
 //! The replies that tell the answers of the calls.
 ghost use Rattle.std.specs.Prelude.{◌≡◌, Err};
-ghost use Rattle.table_session.specs.Replying.{file_of, loaded_reply, refusal_reply, written_reply};
+ghost use Rattle.table_session.specs.Replying.{loaded_reply, refusal_reply, written_reply};
 
 use session_lines::{BadLine, LineWhy, Reply};
 use snapshot_load::{LoadError, Snapshot};
-use table_model::{LogName, Spot};
 use writer_txn::{WriteError, Written};
 
 /// The reply to the line of this number, of which no request was read.
@@ -41,16 +40,9 @@ pub(crate) fn loaded(answer: Result<Snapshot, LoadError>) -> Reply
     ensures { result ≡ loaded_reply answer }
 {
     match answer {
-        Ok(snapshot) => Reply::Loaded {
-            latest: snapshot.latest,
-            state: snapshot.state,
-            time: snapshot.time,
-            version: snapshot.version,
-        },
+        Ok(snapshot) => Reply::Loaded(snapshot),
         Err(LoadError::NoTable) => Reply::NoTable,
-        Err(LoadError::Fault { spot }) => Reply::Fault {
-            file: file_of(spot),
-        },
+        Err(LoadError::Fault { spot }) => Reply::Fault { spot },
         Err(_) => Reply::Memory,
     }
 }
@@ -104,19 +96,7 @@ fn not_written(error: WriteError) -> Reply
         WriteError::TimeEnd { base, last } => Reply::TimeEnd { base, last },
         WriteError::TooLarge { base, bytes } => Reply::TooLarge { base, bytes },
         WriteError::Taken { base, version, id } => Reply::Taken { base, id, version },
-        WriteError::Fault { spot } => Reply::Fault {
-            file: file_of(spot),
-        },
+        WriteError::Fault { spot } => Reply::Fault { spot },
         WriteError::Memory => Reply::Memory,
-    }
-}
-
-/// The file of a spot; none for the folder.
-fn file_of(spot: Spot) -> Option<LogName>
-    ensures { result ≡ file_of spot }
-{
-    match spot {
-        Spot::Folder => None,
-        Spot::File(name) => Some(name),
     }
 }

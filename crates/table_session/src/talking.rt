@@ -27,7 +27,7 @@ pub fn session<T: Steps, I: Source, O: Sink, C: Clock, U: Ids>(
     clock: &mut C,
     ids: &mut U,
 ) -> End
-    // Publishing is not built yet, so as many commits may be unpublished as there may be versions.
+    // No request of a session publishes, so as many commits may be unpublished as there may be versions.
     requires { IfSome (T.known caller.old).terms (λ t. t.limits.versions ≤ t.limits.unpublished) }
     ensures session { SessionOf T.tells (T.known caller.old) (T.known caller.new)
         (source_view I.tells (I.taken source.old) (I.left source.old)
@@ -44,6 +44,7 @@ pub fn session<T: Steps, I: Source, O: Sink, C: Clock, U: Ids>(
     ensures valid { IsValid (T.known caller.new) }
     ensures after { T.after caller.old caller.new }
 {
+    // The limits are asked for what this call tells alone: the terms are known and the knowledge is valid.
     let _ = caller.limits();
     let mut lines = match Lines::new(alloc) {
         Ok(lines) => lines,

@@ -10,7 +10,7 @@ use Rattle.conflict_rules.specs.declared.intent.Intent.{Intent}
 use Rattle.conflict_rules.specs.Conflict.{conflict_with, first_of}
 use Rattle.table_model.specs.Log.{Commit, history}
 use Rattle.table_model.specs.Knowledge.{Knowledge, IsGrown}
-use Rattle.snapshot_load.specs.declared.answers.Snapshot.{Snapshot}
+use Rattle.table_model.specs.declared.snapshot.Snapshot.{Snapshot}
 use Rattle.snapshot_load.specs.declared.errors.LoadError.{LoadError}
 use Rattle.snapshot_load.specs.declared.errors.LoadError.TheVariants as load
 use Rattle.snapshot_load.specs.Snapshots.{IsSnapshot}

@@ -5,7 +5,7 @@ use Rattle.delta_cli.proofs.running.hold.Goals as goal
 
 pub returns-clause-run : goal.returns-clause-run
 returns-clause-run g c =
-    held_by _ c.args.world.files g.S.Store.tells c.args.world c.into_world.result c.new-solo.result c.session-end.new.caller c.settle-status.new.caller
+    held_by _ c.args.world.files c.args.world.first g.S.Store.tells c.args.world c.into_world.result c.new-solo.result c.session-end.new.caller c.settle-status.new.caller
     (source_view g.I.Source.tells (g.I.Source.taken c.args.source.now) (g.I.Source.left c.args.source.now) (g.I.Source.taken c.session-end.new.source) (g.I.Source.left c.session-end.new.source))
     (sink_view g.O.Sink.tells (g.O.Sink.written c.args.sink.now) (g.O.Sink.written c.session-end.new.sink))
     (clock_view g.C.Clock.fixed (g.C.Clock.reading c.args.clock.now))

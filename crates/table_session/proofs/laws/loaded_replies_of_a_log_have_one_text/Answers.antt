@@ -6,4 +6,4 @@ use Rattle.session_lines.specs.Replies.{reply_text_of}
 use Rattle.table_session.proofs.laws.loaded_replies_of_a_log_have_one_text.Goals as goal
 
 pub returns : goal.returns
-returns c = λ s t log latest time version h g. ap (λ (u : State). reply_text_of (reply.Loaded latest u time version)) (one_state s t log h g)
+returns c = λ s t u log h g. ap (λ (v : State). reply_text_of (reply.Loaded (record s { state = v }))) (one_state t u log h g)

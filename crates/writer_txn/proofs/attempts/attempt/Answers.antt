@@ -5,6 +5,7 @@ use Rattle.reconcile.specs.Replay.{Log}
 use Rattle.reconcile.specs.Standing.{StandsFor}
 use Rattle.staged_commit.specs.Answers.{IsAppended, IsAppendRefused}
 use Rattle.table_model.specs.Knowledge.{Knowledge}
+use Rattle.table_model.proofs.Growing.{grows_trans}
 use Rattle.writer_txn.specs.Converting.{of_fault}
 use Rattle.writer_txn.specs.Counting.{CountsError, CountsFaults}
 use Rattle.writer_txn.specs.declared.attempts.Outcome.{Outcome}
@@ -153,3 +154,6 @@ returns-in_err-propose-clause-counts g c =
 pub returns-in-Lost-clause-counts : goal.returns-in-Lost-clause-counts
 returns-in-Lost-clause-counts g c =
     answer_later _ _ (g.T.Steps.known c.args.caller.now) (g.T.Steps.known c.propose.new.caller) _ c.in_ok-propose.ensures.counts c.caught_up.ensures.counts
+
+pub returns-in-Lost-clause-grows : goal.returns-in-Lost-clause-grows
+returns-in-Lost-clause-grows g c = grows_trans _ _ _ c.in_ok-propose.ensures.grows c.caught_up.ensures.grows

@@ -4,6 +4,7 @@ use Rattle.std.proofs.lemmas.Int.{to_z-of_z}
 use Rattle.std.specs.Prelude.{Err}
 use Rattle.staged_commit.proofs.Appends.{create-time}
 use Rattle.table_model.specs.Log.{history}
+use Rattle.table_model.proofs.Growing.{grows_trans}
 use Rattle.writer_txn.specs.Converting.{of_fault}
 use Rattle.writer_txn.specs.Counting.{CountsError}
 use Rattle.writer_txn.specs.Creating.{CreateStands}
@@ -154,3 +155,12 @@ pub returns-clause-counts : goal.returns-clause-counts
 returns-clause-counts g c =
     let asked : (g.T.Steps.known c.commits.new.self).faults ≡ (g.T.Steps.known c.args.caller.now).faults = ap (λ (x : Knowledge). x.faults) c.in_ok-commits.ensures.learns.same in
     c.in_ok-propose.ensures.counts ∙ asked
+
+pub returns-in_err-propose-clause-grows : goal.returns-in_err-propose-clause-grows
+returns-in_err-propose-clause-grows g c = grows_trans _ _ _ c.in_ok-commits.ensures.grows c.in_err-propose.ensures.grows
+
+pub returns-in-Done-clause-grows : goal.returns-in-Done-clause-grows
+returns-in-Done-clause-grows g c = grows_trans _ _ _ c.in_ok-commits.ensures.grows c.in_ok-propose.ensures.grows
+
+pub returns-in-Lost-clause-grows : goal.returns-in-Lost-clause-grows
+returns-in-Lost-clause-grows g c = grows_trans _ _ _ c.in_ok-commits.ensures.grows c.in_ok-propose.ensures.grows

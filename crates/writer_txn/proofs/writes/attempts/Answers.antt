@@ -79,3 +79,9 @@ returns-in_err-written-clause-counts g c =
 
 pub returns-in-Answered-clause-counts : goal.returns-in-Answered-clause-counts
 returns-in-Answered-clause-counts g c = c.in_ok-written.ensures.counts ∙ c.loop-tried.invariant.faults
+
+pub returns-in_err-written-clause-grows : goal.returns-in_err-written-clause-grows
+returns-in_err-written-clause-grows g c = grows_trans _ _ _ c.loop-tried.invariant.grows c.in_err-written.ensures.grows
+
+pub returns-in-Answered-clause-grows : goal.returns-in-Answered-clause-grows
+returns-in-Answered-clause-grows g c = grows_trans _ _ _ c.loop-tried.invariant.grows c.in_ok-written.ensures.grows

@@ -2,7 +2,7 @@ use Rattle.std.proofs.Common.{rules, ◌∙◌, ◌≤◌, refl, sym, subst, ℤ
 use Rattle.std.proofs.lemmas.Int.{to_z-of_z}
 use Rattle.std.specs.Prelude.{Err, Option, IfSome}
 use Rattle.table_model.specs.Knowledge.{Terms}
-use Rattle.table_model.proofs.Growing.{grows_refl}
+use Rattle.table_model.proofs.Growing.{grows_refl, grows_trans}
 use Rattle.writer_txn.specs.Converting.{of_load}
 use Rattle.writer_txn.specs.Counting.{CountsError}
 use Rattle.writer_txn.specs.Moments.{WrittenNow}
@@ -77,3 +77,6 @@ returns-in_err-snapshot-clause-counts g c =
 pub returns-clause-counts : goal.returns-clause-counts
 returns-clause-counts g c =
     answer_later _ _ (g.T.Steps.known c.args.caller.now) (g.T.Steps.known c.load.new.caller) _ c.in_ok-snapshot.ensures.counts c.attempts.ensures.counts
+
+pub returns-clause-grows : goal.returns-clause-grows
+returns-clause-grows g c = grows_trans _ _ _ c.in_ok-snapshot.ensures.grows c.attempts.ensures.grows
