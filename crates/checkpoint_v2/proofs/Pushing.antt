@@ -34,6 +34,13 @@ pushes_line x old mid new a line end w = record {
   written = (w, tt);
 }
 
+-- a line and its LF, made apart from the text
+pub pushes_made : {T E : Type 0} (x : T) (old new cleared made ended : List ℕ) (a : Action) → cleared ≡ [] → made ≡ cleared ++ canonical_line a → ended ≡ made ++ 10 ∷ []
+    → new ≡ old ++ ended → IsWritten a → Pushes {E = E} (Ok x) old new (a ∷ [])
+pushes_made x old new cleared made ended a none line end all w =
+    pushes_line x old (old ++ canonical_line a) new a refl
+    (all ∙ ap (λ l. old ++ l) (end ∙ ap (λ l. l ++ 10 ∷ []) (line ∙ ap (λ l. l ++ canonical_line a) none)) ∙ sym (append_assoc old (canonical_line a) (10 ∷ []))) w
+
 -- some lines, and then more
 pub pushes_more : {T U E : Type 0} (r : Result T E) (x : U) (old mid new : List ℕ) (xs ys : List Action) → Pushes {E = E} (Ok x) old mid xs → Pushes r mid new ys → Pushes r old new (xs ++ ys)
 pushes_more (Ok y) x old mid new xs ys h k = record {

@@ -13,7 +13,7 @@ ghost use Rattle.checkpoint_v2.specs.Canonical.{protocol_action, table_actions, 
 ghost use Rattle.checkpoint_v2.specs.Table.{IsCheckpointOf};
 
 use action_fields::{push_add_line, push_line, push_remove_line};
-use action_types::{Action, Domain, Txn};
+use action_types::{Action, Add, Domain, Remove, Txn};
 use json::Writer;
 use reconcile::State;
 use std::alloc::{AllocError, Global};
@@ -186,19 +186,52 @@ fn push_domain(alloc: Global, text: &mut Vec<u8>, domain: &Domain) -> Result<(),
 fn push_removes(alloc: Global, text: &mut Vec<u8>, state: &State) -> Result<(), AllocError>
     ensures { Pushes result text.old.items text.new.items (map action.Remove (tombstones_in state.now)) }
 {
+    let mut line = Vec::new(alloc);
     for remove in state.tombstones() {
-        push_remove_line(alloc, text, remove)?;
-        text.push(b'\n')?;
+        push_remove(alloc, text, &mut line, remove)?;
     }
+    Ok(())
+}
+
+/// Appends the line of a tombstone, which is made in `line` in place of what it held: a line that is short is
+/// made at less cost at the front of a vector than at the end of a long text.
+fn push_remove(
+    alloc: Global,
+    text: &mut Vec<u8>,
+    line: &mut Vec<u8>,
+    remove: &Remove,
+) -> Result<(), AllocError>
+    ensures { Pushes result text.old.items text.new.items (action.Remove remove.now ∷ []) }
+{
+    line.clear();
+    push_remove_line(alloc, line, remove)?;
+    line.push(b'\n')?;
+    text.extend_from_slice(line.as_slice())?;
     Ok(())
 }
 
 fn push_adds(alloc: Global, text: &mut Vec<u8>, state: &State) -> Result<(), AllocError>
     ensures { Pushes result text.old.items text.new.items (map action.Add (files_in state.now)) }
 {
+    let mut line = Vec::new(alloc);
     for add in state.files() {
-        push_add_line(alloc, text, add)?;
-        text.push(b'\n')?;
+        push_add(alloc, text, &mut line, add)?;
     }
+    Ok(())
+}
+
+/// Appends the line of a file, which is made in `line` as that of a tombstone is.
+fn push_add(
+    alloc: Global,
+    text: &mut Vec<u8>,
+    line: &mut Vec<u8>,
+    add: &Add,
+) -> Result<(), AllocError>
+    ensures { Pushes result text.old.items text.new.items (action.Add add.now ∷ []) }
+{
+    line.clear();
+    push_add_line(alloc, line, add)?;
+    line.push(b'\n')?;
+    text.extend_from_slice(line.as_slice())?;
     Ok(())
 }
